@@ -1,0 +1,2 @@
+-- What the contracts of `facts` cite.
+pub mod Sets
