@@ -1,0 +1,202 @@
+-- Laws of specs/Counting: sums, counts, and the first place where a test holds; and that a mask's count and its lowest fact are such a
+-- count and such a place. Assumes nothing.
+use mathlib.Core.Bool.{Bool, true, false, cond, true≢false}
+use mathlib.Core.Path.{_≡_, refl, sym, ap, _∙_, subst}
+use Prim.Native.Nat.{ℕ, zero, suc, _+_, _*_, _^_, _<_, _≤_}
+use native.Mathlib.Nat.{le-refl, le-of-lt, lt-of-lt-of-le, suc-mul}
+use native.Mathlib.Numerals.{add-one}
+use native.Mathlib.Omega.{arith}
+use lib.Arith.{lt-of-le-ne}
+use lib.Dec.{eqb, ltb}
+use lib.Pow.{pow-mono}
+use borrow.Author.Tests.{eqb-true, eqb-false, ltb-false}
+use Rattle.facts.specs.Sets.{width, has, count, lowest, sumBits}
+use Rattle.facts.proofs.Counting.{bit-has, count-sum, lowest-has, lowest-first}
+use Rattle.facts.proofs.Laws.{has-above, within-below, lt-within}
+use Rattle.table.specs.Counting.{sumBelow, countBelow, firstWhere}
+use Rattle.table.proofs.Bools.{by-order}
+
+-- ---- sums
+
+pub sumBelow-none : (g : ℕ → ℕ) → sumBelow g 0 ≡ 0
+unfolding sumBelow
+sumBelow-none g = refl
+
+-- one number more, in the code's form
+pub sumBelow-next : (g : ℕ → ℕ) (n : ℕ) → sumBelow g (n + 1) ≡ sumBelow g n + g n
+unfolding sumBelow
+sumBelow-next g n = rw (add-one n)
+
+pub sumBelow-same : (g h : ℕ → ℕ) (n : ℕ) → ((i : ℕ) → i < n → g i ≡ h i) → sumBelow g n ≡ sumBelow h n
+unfolding sumBelow
+sumBelow-same g h zero same = refl
+sumBelow-same g h (suc n) same = omega (arith, sumBelow-same g h n (λ i l. same i (omega arith)), same n (omega arith))
+
+pub sumBelow-zero : (g : ℕ → ℕ) (n : ℕ) → sumBelow g n ≡ 0 → (i : ℕ) → i < n → g i ≡ 0
+unfolding sumBelow
+sumBelow-zero g zero e i h = absurd (omega arith)
+sumBelow-zero g (suc n) e i h =
+    by-order i n (sumBelow-zero g n (omega arith) i) (λ (l : n ≤ i).
+    let last : n ≡ i = omega arith in
+    subst (λ (j : ℕ). g j ≡ 0) last (omega arith))
+
+pub zero-sumBelow : (g : ℕ → ℕ) (n : ℕ) → ((i : ℕ) → i < n → g i ≡ 0) → sumBelow g n ≡ 0
+unfolding sumBelow
+zero-sumBelow g zero none = refl
+zero-sumBelow g (suc n) none = omega (arith, zero-sumBelow g n (λ i l. none i (omega arith)), none n (omega arith))
+
+pub sumBelow-le : (g : ℕ → ℕ) (n k : ℕ) → ((i : ℕ) → i < n → g i ≤ k) → sumBelow g n ≤ n * k
+unfolding sumBelow
+sumBelow-le g zero k most = omega arith
+sumBelow-le g (suc n) k most = omega (arith, suc-mul n k, sumBelow-le g n k (λ i l. most i (omega arith)), most n (omega arith))
+
+-- what is 0 from n on adds nothing
+pub sumBelow-rest : (g : ℕ → ℕ) (n m : ℕ) → n ≤ m → ((i : ℕ) → n ≤ i → g i ≡ 0) → sumBelow g m ≡ sumBelow g n
+unfolding sumBelow
+sumBelow-rest g n zero h none = let e : 0 ≡ n = omega arith in ap (sumBelow g) e
+sumBelow-rest g n (suc m) h none =
+    by-order m n (λ l. let e : suc m ≡ n = omega arith in ap (sumBelow g) e)
+    (λ l. omega (arith, sumBelow-rest g n m l none, none m l))
+
+-- ---- counts
+
+-- what one test adds to a count
+abbrev one : Bool → ℕ
+one b = cond b 1 0
+
+one-zero : (b : Bool) → one b ≡ 0 → b ≡ false
+one-zero true e = absurd (omega arith)
+one-zero false e = refl
+
+one-le : (b : Bool) → one b ≤ 1
+one-le true = omega arith
+one-le false = omega arith
+
+pub countBelow-same : (p q : ℕ → Bool) (n : ℕ) → ((i : ℕ) → i < n → p i ≡ q i) → countBelow p n ≡ countBelow q n
+unfolding countBelow
+countBelow-same p q n same = sumBelow-same (λ i. one (p i)) (λ i. one (q i)) n (λ i h. ap one (same i h))
+
+pub countBelow-zero : (p : ℕ → Bool) (n : ℕ) → countBelow p n ≡ 0 → (i : ℕ) → i < n → p i ≡ false
+unfolding countBelow
+countBelow-zero p n e i h = one-zero (p i) (sumBelow-zero (λ i. one (p i)) n e i h)
+
+pub zero-countBelow : (p : ℕ → Bool) (n : ℕ) → ((i : ℕ) → i < n → p i ≡ false) → countBelow p n ≡ 0
+unfolding countBelow
+zero-countBelow p n none = zero-sumBelow (λ i. one (p i)) n (λ i h. ap one (none i h))
+
+pub countBelow-le : (p : ℕ → Bool) (n : ℕ) → countBelow p n ≤ n
+unfolding countBelow
+countBelow-le p n = omega (arith, sumBelow-le (λ i. one (p i)) n 1 (λ i h. one-le (p i)))
+
+-- ---- the first place
+
+-- k is the first number below n that passes the test, or n where there is none.
+pub record FirstAt (p : ℕ → Bool) (n k : ℕ) : Type 0 where
+  pub inside : k ≤ n
+  pub before : (i : ℕ) → i < k → p i ≡ false
+  pub holds : k < n → p k ≡ true
+
+firstAt-more : (p : ℕ → Bool) (n k : ℕ) → FirstAt p n k → FirstAt p (suc n) (cond (eqb k n) (cond (p n) n (suc n)) k)
+firstAt-more p n k at = go (eqb k n) refl (p n) refl
+  where
+    go : (b : Bool) → eqb k n ≡ b → (t : Bool) → p n ≡ t → FirstAt p (suc n) (cond b (cond t n (suc n)) k)
+    go true e true f = record {
+      inside = omega arith;
+      before = λ i h. at .before i (omega (arith, eqb-true k n e));
+      holds = λ h. f;
+    }
+    go true e false f = record {
+      inside = le-refl (suc n);
+      before = λ i h.
+          by-order i n (λ l. at .before i (omega (arith, eqb-true k n e))) (λ (l : n ≤ i).
+          let last : n ≡ i = omega arith in
+          subst (λ (j : ℕ). p j ≡ false) last f);
+      holds = λ h. absurd (omega arith);
+    }
+    go false e t f =
+        let less : k < n = lt-of-le-ne (at .inside) (eqb-false k n e) in
+        record { inside = omega arith; before = at .before; holds = λ h. at .holds less }
+
+pub firstWhere-at : (p : ℕ → Bool) (n : ℕ) → FirstAt p n (firstWhere p n)
+unfolding firstWhere
+firstWhere-at p zero = record {
+  inside = le-refl 0;
+  before = λ i h. absurd (omega arith);
+  holds = λ h. absurd (omega arith);
+}
+firstWhere-at p (suc n) = firstAt-more p n (firstWhere p n) (firstWhere-at p n)
+
+firstAt-not-before : (p : ℕ → Bool) (n j k : ℕ) → FirstAt p n j → FirstAt p n k → j < k → ⊥
+firstAt-not-before p n j k a b h = true≢false (sym (a .holds (lt-of-lt-of-le h (b .inside))) ∙ b .before j h)
+
+-- the characterization back
+pub firstWhere-is : (p : ℕ → Bool) (n k : ℕ) → FirstAt p n k → firstWhere p n ≡ k
+firstWhere-is p n k at =
+    by-order (firstWhere p n) k (λ l. absurd (firstAt-not-before p n (firstWhere p n) k (firstWhere-at p n) at l))
+    (λ l. by-order k (firstWhere p n) (λ m. absurd (firstAt-not-before p n k (firstWhere p n) at (firstWhere-at p n) m))
+    (λ m. omega arith))
+
+pub firstWhere-le : (p : ℕ → Bool) (n : ℕ) → firstWhere p n ≤ n
+firstWhere-le p n = firstWhere-at p n .inside
+
+pub firstWhere-holds : (p : ℕ → Bool) (n : ℕ) → firstWhere p n < n → p (firstWhere p n) ≡ true
+firstWhere-holds p n = firstWhere-at p n .holds
+
+pub firstWhere-first : (p : ℕ → Bool) (n i : ℕ) → i < firstWhere p n → p i ≡ false
+firstWhere-first p n = firstWhere-at p n .before
+
+-- the first that passes; and n where none does
+pub firstWhere-found : (p : ℕ → Bool) (n k : ℕ) → k < n → p k ≡ true → ((i : ℕ) → i < k → p i ≡ false) → firstWhere p n ≡ k
+firstWhere-found p n k h e none = firstWhere-is p n k (record { inside = le-of-lt h; before = none; holds = λ _. e })
+
+pub firstWhere-none : (p : ℕ → Bool) (n : ℕ) → ((i : ℕ) → i < n → p i ≡ false) → firstWhere p n ≡ n
+firstWhere-none p n none =
+    firstWhere-is p n n (record { inside = le-refl n; before = none; holds = λ h. absurd (omega arith) })
+
+pub firstWhere-same : (p q : ℕ → Bool) (n : ℕ) → ((i : ℕ) → i < n → p i ≡ q i) → firstWhere p n ≡ firstWhere q n
+firstWhere-same p q n same =
+    firstWhere-is p n (firstWhere q n)
+    (record {
+      inside = firstWhere-le q n;
+      before = λ i h. same i (lt-of-lt-of-le h (firstWhere-le q n)) ∙ firstWhere-first q n i h;
+      holds = λ h. same (firstWhere q n) h ∙ firstWhere-holds q n h;
+    })
+
+-- one number more, in the code's form
+pub firstWhere-next : (p : ℕ → Bool) (n : ℕ)
+    → firstWhere p (n + 1) ≡ cond (eqb (firstWhere p n) n) (cond (p n) n (n + 1)) (firstWhere p n)
+unfolding firstWhere
+firstWhere-next p n = rw (add-one n)
+
+-- what was found stays found
+pub firstWhere-stays : (p : ℕ → Bool) (n : ℕ) → firstWhere p n < n → firstWhere p (n + 1) ≡ firstWhere p n
+firstWhere-stays p n h =
+    firstWhere-found p (n + 1) (firstWhere p n) (omega arith) (firstWhere-holds p n h) (firstWhere-first p n)
+
+-- a sum above 0 has a part above 0, and the first such is found
+pub sumBelow-some : (g : ℕ → ℕ) (n : ℕ) → 0 < sumBelow g n → firstWhere (λ i. ltb 0 (g i)) n < n
+sumBelow-some g n h =
+    by-order (firstWhere (λ i. ltb 0 (g i)) n) n (λ l. l) (λ l.
+    let none : (i : ℕ) → i < n → g i ≡ 0 =
+    λ i k. omega (arith, ltb-false 0 (g i) (firstWhere-first (λ i. ltb 0 (g i)) n i (lt-of-lt-of-le k l))) in
+    absurd (omega (arith, zero-sumBelow g n none)))
+
+-- ---- masks
+
+bits-countBelow : (m n : ℕ) → countBelow (has m) n ≡ sumBits n m
+unfolding countBelow sumBelow sumBits
+bits-countBelow m zero = refl
+bits-countBelow m (suc n) = omega (arith, bits-countBelow m n, bit-has m n)
+
+-- the facts of a mask, counted one by one
+pub countBelow-mask : (m n : ℕ) → n ≤ width → m < 2 ^ n → countBelow (has m) n ≡ count m
+unfolding countBelow
+countBelow-mask m n h l =
+    sym (sumBelow-rest (λ i. one (has m i)) n width h (λ i k. ap one (has-above m n i l k))) ∙
+    bits-countBelow m width ∙ sym (count-sum m (lt-of-lt-of-le l (pow-mono h)))
+
+-- the lowest fact of a mask that has one
+pub firstWhere-mask : (m n : ℕ) → n ≤ width → 0 < m → m < 2 ^ n → firstWhere (has m) n ≡ lowest m
+firstWhere-mask m n h some l =
+    let at = lowest-has m some (lt-of-lt-of-le l (pow-mono h)) in
+    firstWhere-found (has m) n (lowest m) (within-below m n (lowest m) (lt-within m n l) at) at (lowest-first m)

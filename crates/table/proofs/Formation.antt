@@ -1,0 +1,245 @@
+-- When a task is well formed: the test of specs/Tasks and its record of named parts say the same, and what the proofs read off the record.
+-- Assumes nothing.
+use mathlib.Core.Bool.{Bool, true, false, not, _&&_, _||_, cond}
+use mathlib.Core.List.{List}
+use mathlib.Core.Path.{_≡_, refl, sym, _∙_, subst}
+use Prim.Native.Nat.{ℕ, zero, suc, _+_, _^_, _<_, _≤_}
+use native.Mathlib.Nat.{lt-of-lt-of-le}
+use native.Mathlib.Numerals.{add-one}
+use native.Mathlib.Omega.{arith}
+use lib.Dec.{eqb, leb, ltb}
+use lib.ListN.{length, getD, List·getD-eq-default}
+use lib.Pow.{pow-mono}
+use borrow.Author.Tests.{ltb-true, leb-true, eqb-true, lt-ltb, le-ltb, le-leb, eq-eqb, not-true, not-false}
+use Rattle.facts.specs.Sets.{has, within}
+use Rattle.facts.proofs.Laws.{has-empty, within-has, has-within, within-lt}
+use Rattle.table.specs.Sizes.{maxFacts, maxActions, maxSteps, maxLimit}
+use Rattle.table.specs.Repairs.{byKind, dropDelete, addEffect, dropNeed}
+use Rattle.table.specs.Tasks.{maskOf, everyBelow, sizesFormed, maskFormed, actionFormed, stepFormed, formed, Shaped, WellFormed}
+use Rattle.table.specs.declared.Table.{Table}
+use Rattle.table.specs.declared.Task.{Task}
+use Rattle.table.proofs.Bools.{both, both-true, right-true, right-holds, by-order}
+
+-- ---- what holds of every number below n
+
+pub everyBelow-next : (p : ℕ → Bool) (i : ℕ) → everyBelow p (i + 1) ≡ (everyBelow p i && p i)
+unfolding everyBelow
+everyBelow-next p i = rw add-one
+
+-- a loop that joins its tests: at its start, after a turn, at its end
+pub everyBelow-none : (p : ℕ → Bool) → true ≡ everyBelow p 0
+unfolding everyBelow
+everyBelow-none p = refl
+
+pub everyBelow-more : (p : ℕ → Bool) (i : ℕ) {good next : Bool} → good ≡ everyBelow p i → next ≡ p i → (good && next) ≡ everyBelow p (i + 1)
+everyBelow-more p i g n = rw (g, n, everyBelow-next p i)
+
+pub everyBelow-end : (p : ℕ → Bool) (i n : ℕ) {good : Bool} → i ≤ n → n ≤ i → good ≡ everyBelow p i → good ≡ everyBelow p n
+everyBelow-end p i n {good} l m g =
+    let e : i ≡ n = omega arith in
+    subst (λ (j : ℕ). good ≡ everyBelow p j) e g
+
+pub everyBelow-all : (p : ℕ → Bool) (n : ℕ) → everyBelow p n ≡ true → (i : ℕ) → i < n → p i ≡ true
+unfolding everyBelow
+everyBelow-all p zero h i l = absurd (omega arith)
+everyBelow-all p (suc n) h i l =
+    let two = both (everyBelow p n) (p n) h in
+    by-order i n (everyBelow-all p n (two .0) i) (λ (m : n ≤ i).
+    let e : n ≡ i = omega arith in
+    subst (λ (j : ℕ). p j ≡ true) e (two .1))
+
+pub all-everyBelow : (p : ℕ → Bool) (n : ℕ) → ((i : ℕ) → i < n → p i ≡ true) → everyBelow p n ≡ true
+unfolding everyBelow
+all-everyBelow p zero h = refl
+all-everyBelow p (suc n) h = both-true (all-everyBelow p n (λ i l. h i (omega arith))) (h n (omega arith))
+
+-- ---- one law for the three masks of an action
+
+pub byKind-all {ℓ} : {A : Type ℓ} (P : A → Type 0) (k : ℕ) {d a n : A} → P d → P a → P n → P (byKind k d a n)
+byKind-all {A} P k pd pa pn = pick (eqb k dropDelete) pd (pick (eqb k addEffect) pa pn)
+  where
+    pick : (t : Bool) {x y : A} → P x → P y → P (cond t x y)
+    pick true p q = p
+    pick false p q = q
+
+-- what 01 asks of one mask of action a: "no set has a fact at or above F", "everything for unused actions .. is zero"
+MaskIn : Table → ℕ → ℕ → Type 0
+MaskIn t a m = ((f : ℕ) → t .facts ≤ f → has m f ≡ false) × (t .actions ≤ a → m ≡ 0)
+
+mask-in : (t : Table) (a m : ℕ) → maskFormed t a m ≡ true → MaskIn t a m
+unfolding maskFormed MaskIn
+mask-in t a m h =
+    let p = both (within m (t .facts)) (ltb a (t .actions) || eqb m 0) h in
+    (λ f l. within-has m (t .facts) f (p .0) l, λ l. eqb-true m 0 (right-holds (p .1) (le-ltb a (t .actions) l)))
+
+-- past the declared length of the arrays every mask is empty
+mask-past : (t : Task) → Shaped t → (k a : ℕ) → maxActions ≤ a → MaskIn (t .table) a (maskOf (t .table) k a)
+unfolding MaskIn
+mask-past t s k a h =
+    let e : maskOf (t .table) k a ≡ 0 =
+    byKind-all (λ (m : ℕ). m ≡ 0) k
+    (List·getD-eq-default (t .table .deletes) 0 (omega (arith, s .deletes)))
+    (List·getD-eq-default (t .table .adds) 0 (omega (arith, s .adds)))
+    (List·getD-eq-default (t .table .needs) 0 (omega (arith, s .needs))) in
+    (λ f l. rw e (has-empty f), λ l. e)
+
+-- each of an action's three masks is formed
+mask-formed : (t : Table) (k a : ℕ) → actionFormed t a ≡ true → maskFormed t a (maskOf t k a) ≡ true
+unfolding actionFormed
+mask-formed t k a h =
+    let needs : Bool = maskFormed t a (getD (t .needs) a 0) in
+    let adds : Bool = maskFormed t a (getD (t .adds) a 0) in
+    let deletes : Bool = maskFormed t a (getD (t .deletes) a 0) in
+    let p = both (needs && adds) deletes h in
+    let q = both needs adds (p .0) in
+    byKind-all (λ (m : ℕ). maskFormed t a m ≡ true) k (p .1) (q .1) (q .0)
+
+masks-in : (t : Task) → Shaped t → everyBelow (actionFormed (t .table)) maxActions ≡ true → (k a : ℕ) → MaskIn (t .table) a (maskOf (t .table) k a)
+masks-in t s h k a =
+    by-order a maxActions
+    (λ l. mask-in (t .table) a (maskOf (t .table) k a) (mask-formed (t .table) k a (everyBelow-all (actionFormed (t .table)) maxActions h a l)))
+    (mask-past t s k a)
+
+-- ---- the test gives the named parts
+
+sizes-in : (t : Task)
+    → sizesFormed t ≡ true
+    → (0 < t .table .facts)
+    × (t .table .facts ≤ maxFacts)
+    × (0 < t .table .actions)
+    × (t .table .actions ≤ maxActions)
+    × (t .table .limit ≤ maxLimit)
+    × (t .run .count ≤ maxSteps)
+unfolding sizesFormed
+sizes-in t h =
+    let F = t .table .facts in
+    let A = t .table .actions in
+    let L = t .table .limit in
+    let n = t .run .count in
+    let p = both (ltb 0 F && leb F maxFacts && (ltb 0 A && leb A maxActions)) (leb L maxLimit && leb n maxSteps) h in
+    let q = both (ltb 0 F && leb F maxFacts) (ltb 0 A && leb A maxActions) (p .0) in
+    let f = both (ltb 0 F) (leb F maxFacts) (q .0) in
+    let a = both (ltb 0 A) (leb A maxActions) (q .1) in
+    let r = both (leb L maxLimit) (leb n maxSteps) (p .1) in (
+      ltb-true 0 F (f .0),
+      leb-true F maxFacts (f .1),
+      ltb-true 0 A (a .0),
+      leb-true A maxActions (a .1),
+      leb-true L maxLimit (r .0),
+      leb-true n maxSteps (r .1),
+    )
+
+-- the same of step i: "steps are below A", "everything for unused .. steps is zero"
+StepIn : Task → ℕ → Type 0
+StepIn t i = (getD (t .run .steps) i 0 < t .table .actions) × (t .run .count ≤ i → getD (t .run .steps) i 0 ≡ 0)
+
+step-in : (t : Task) (i : ℕ) → stepFormed t i ≡ true → StepIn t i
+unfolding stepFormed StepIn
+step-in t i h =
+    let a = getD (t .run .steps) i 0 in
+    let p = both (ltb a (t .table .actions)) (ltb i (t .run .count) || eqb a 0) h in
+    (ltb-true a (t .table .actions) (p .0), λ l. eqb-true a 0 (right-holds (p .1) (le-ltb i (t .run .count) l)))
+
+steps-in : (t : Task) → Shaped t → 0 < t .table .actions → everyBelow (stepFormed t) maxSteps ≡ true → (i : ℕ) → StepIn t i
+unfolding StepIn
+steps-in t s low h i =
+    by-order i maxSteps (λ l. step-in t i (everyBelow-all (stepFormed t) maxSteps h i l)) (λ l.
+    let e : getD (t .run .steps) i 0 ≡ 0 = List·getD-eq-default (t .run .steps) 0 (omega (arith, s .steps)) in
+    (omega arith, λ m. e))
+
+-- the four parts of the test, from its end to its start
+parts : (t : Task)
+    → formed t ≡ true
+    → (sizesFormed t ≡ true)
+    × (everyBelow (actionFormed (t .table)) maxActions ≡ true)
+    × (within (t .run .start) (t .table .facts) ≡ true)
+    × (within (t .run .goal) (t .table .facts) ≡ true)
+    × (everyBelow (stepFormed t) maxSteps ≡ true)
+unfolding formed
+parts t h =
+    let actions = everyBelow (actionFormed (t .table)) maxActions in
+    let start = within (t .run .start) (t .table .facts) in
+    let goal = within (t .run .goal) (t .table .facts) in
+    let p = both (sizesFormed t && actions && (start && goal)) (everyBelow (stepFormed t) maxSteps) h in
+    let q = both (sizesFormed t && actions) (start && goal) (p .0) in
+    let r = both (sizesFormed t) actions (q .0) in
+    let sets = both start goal (q .1) in
+    (r .0, r .1, sets .0, sets .1, p .1)
+
+pub formed-well : (t : Task) → Shaped t → formed t ≡ true → WellFormed t
+unfolding MaskIn StepIn
+formed-well t s h =
+    let p = parts t h in
+    let sizes = sizes-in t (p .0) in
+    record {
+      shaped = s;
+      facts-low = sizes .0;
+      facts-high = sizes .1;
+      actions-low = sizes .2;
+      actions-high = sizes .3;
+      limit-high = sizes .4;
+      count-high = sizes .5;
+      inside = λ k a. masks-in t s (p .1) k a .0;
+      start-inside = λ f. within-has (t .run .start) (t .table .facts) f (p .2);
+      goal-inside = λ f. within-has (t .run .goal) (t .table .facts) f (p .3);
+      steps-below = λ i l. steps-in t s (sizes .2) (p .4) i .0;
+      actions-unused = λ k a. masks-in t s (p .1) k a .1;
+      steps-unused = λ i. steps-in t s (sizes .2) (p .4) i .1;
+    }
+
+-- ---- what the proofs read off the record
+
+-- every step, used or not, is an action of the task
+pub step-below : (t : Task) → WellFormed t → (i : ℕ) → getD (t .run .steps) i 0 < t .table .actions
+step-below t w i =
+    by-order i (t .run .count) (w .steps-below i) (λ l.
+    let e : getD (t .run .steps) i 0 ≡ 0 = w .steps-unused i l in
+    omega (arith, w .actions-low))
+
+pub step-lt : (t : Task) → WellFormed t → (i : ℕ) → getD (t .run .steps) i 0 < maxActions
+step-lt t w i = omega (arith, step-below t w i, w .actions-high)
+
+-- a set with no fact at or above F fits a mask
+inside-lt : (t : Task) → WellFormed t → (m : ℕ) → ((f : ℕ) → t .table .facts ≤ f → has m f ≡ false) → m < 2 ^ maxFacts
+inside-lt t w m h = lt-of-lt-of-le (within-lt m (t .table .facts) (has-within m (t .table .facts) h)) (pow-mono (w .facts-high))
+
+pub mask-lt : (t : Task) → WellFormed t → (k a : ℕ) → maskOf (t .table) k a < 2 ^ maxFacts
+mask-lt t w k a = inside-lt t w (maskOf (t .table) k a) (w .inside k a)
+
+pub start-lt : (t : Task) → WellFormed t → t .run .start < 2 ^ maxFacts
+start-lt t w = inside-lt t w (t .run .start) (w .start-inside)
+
+pub goal-lt : (t : Task) → WellFormed t → t .run .goal < 2 ^ maxFacts
+goal-lt t w = inside-lt t w (t .run .goal) (w .goal-inside)
+
+-- ---- the named parts give the test
+
+unused-or : (a n m : ℕ) → (n ≤ a → m ≡ 0) → (ltb a n || eqb m 0) ≡ true
+unused-or a n m h = by-order a n (λ l. rw (lt-ltb a n l)) (λ l. right-true (ltb a n) (eq-eqb m 0 (h l)))
+
+pub well-formed : (t : Task) → WellFormed t → formed t ≡ true
+unfolding formed sizesFormed actionFormed maskFormed stepFormed
+well-formed t w =
+    let F = t .table .facts in
+    let A = t .table .actions in
+    let mask : (k a : ℕ) → maskFormed (t .table) a (maskOf (t .table) k a) ≡ true =
+    λ k a. both-true (has-within (maskOf (t .table) k a) F (w .inside k a)) (unused-or a A (maskOf (t .table) k a) (w .actions-unused k a)) in
+    let step : (i : ℕ) → stepFormed t i ≡ true =
+    λ i. both-true (lt-ltb (getD (t .run .steps) i 0) A (step-below t w i)) (unused-or i (t .run .count) (getD (t .run .steps) i 0) (w .steps-unused i)) in
+    both-true
+    (both-true
+    (both-true
+    (both-true
+    (both-true (both-true (lt-ltb 0 F (w .facts-low)) (le-leb F maxFacts (w .facts-high))) (both-true (lt-ltb 0 A (w .actions-low)) (le-leb A maxActions (w .actions-high))))
+    (both-true (le-leb (t .table .limit) maxLimit (w .limit-high)) (le-leb (t .run .count) maxSteps (w .count-high))))
+    (all-everyBelow (actionFormed (t .table)) maxActions (λ a l. both-true (both-true (mask dropNeed a) (mask addEffect a)) (mask dropDelete a))))
+    (both-true (has-within (t .run .start) F (w .start-inside)) (has-within (t .run .goal) F (w .goal-inside))))
+    (all-everyBelow (stepFormed t) maxSteps (λ i l. step i))
+
+-- ---- what a caller knows after `if !is_formed(t) { return .. }`: past it, and in it
+
+pub told-formed : (t : Task) {r : Bool} → Shaped t → r ≡ formed t → not r ≡ false → WellFormed t
+told-formed t {r} s e h = formed-well t s (sym e ∙ not-false r h)
+
+pub told-unformed : (t : Task) {r : Bool} → r ≡ formed t → not r ≡ true → formed t ≡ false
+told-unformed t {r} e h = sym e ∙ not-true r h

@@ -1,0 +1,14 @@
+-- What other crates cite of `table`: the laws of flags, counts and gathered lists, of the order of lists, of runs, repairs
+-- and the answer, of tasks, and of repair numbers.
+pub mod FlagLaws
+pub mod Bools
+pub mod CountingLaws
+pub mod GatherLaws
+pub mod OrderLaws
+pub mod RunLaws
+pub mod RepairLaws
+pub mod AnswerLaws
+pub mod JoinLaws
+pub mod Formation
+pub mod RepairNumbers
+pub mod Strides

@@ -1,0 +1,137 @@
+-- Laws of repairs: a fact is touched only by the repairs whose numbers name it, and more repairs keep a fact right where fewer do.
+use mathlib.Core.Bool.{Bool, true, false, not, _&&_, _||_}
+use mathlib.Core.List.{List}
+use mathlib.Core.Logic.{_⊎_, inl, inr}
+use mathlib.Core.Path.{_≡_, refl, sym}
+use Prim.Native.Nat.{ℕ, suc, _*_, _<_, _≤_}
+use native.Mathlib.Omega.{arith}
+use borrow.Author.Tests.{ltb-true}
+use lib.Dec.{ltb}
+use Rattle.table.proofs.FlagLaws.{not-shrinks, or-grows, and-grows, same-flag}
+use Rattle.table.proofs.OrderLaws.{Split, split-at, split-left-in, split-right-in, split-either, ascending-weaken}
+use Rattle.table.proofs.RunLaws.{SameAt, Eases, sameCourse-refl, right-same, right-eases}
+use Rattle.table.specs.Order.{Ascending, isIn}
+use Rattle.table.specs.Repairs.{dropDelete, addEffect, dropNeed, numberOf, factOf, chosen, repaired}
+use Rattle.table.specs.Sizes.{maxActions, kinds, perFact}
+use Rattle.table.specs.Strips.{Cells, Course, Right}
+
+-- ---- sets of repairs that agree on one fact's numbers
+
+chosen-same : (f : ℕ) (R S : ℕ → Bool) → ((n : ℕ) → factOf n ≡ f → R n ≡ S n) → (k a : ℕ) → k < kinds
+    → chosen R f k a ≡ chosen S f k a
+unfolding chosen
+chosen-same f R S agree k a h = pick (ltb a maxActions) refl
+  where
+    pick : (b : Bool) → ltb a maxActions ≡ b → (b && R (numberOf f k a)) ≡ (b && S (numberOf f k a))
+    pick true e =
+        let small : a < maxActions = ltb-true a maxActions e in
+        agree (numberOf f k a) (omega arith)
+    pick false e = refl
+
+pub repaired-same : (c : Cells) (r : Course) (f : ℕ) (R S : ℕ → Bool) → ((n : ℕ) → factOf n ≡ f → R n ≡ S n)
+    → SameAt f r (repaired c R) (repaired c S)
+repaired-same c r f R S agree = record {
+  needs = λ i h j. c .needs (r .step i) f && not (chosen-same f R S agree dropNeed (r .step i) (omega arith) j);
+  adds = λ i h j. c .adds (r .step i) f || chosen-same f R S agree addEffect (r .step i) (omega arith) j;
+  deletes = λ i h j. c .deletes (r .step i) f && not (chosen-same f R S agree dropDelete (r .step i) (omega arith) j);
+}
+
+pub right-agree : (c : Cells) (r : Course) (f : ℕ) (R S : ℕ → Bool) → ((n : ℕ) → factOf n ≡ f → R n ≡ S n)
+    → Right (repaired c R) r f → Right (repaired c S) r f
+right-agree c r f R S agree =
+    right-same f r r (repaired c R) (repaired c S) (repaired-same c r f R S agree) (sameCourse-refl f r)
+
+-- ---- working is monotone
+
+chosen-grows : (f : ℕ) (R S : ℕ → Bool) → ((n : ℕ) → factOf n ≡ f → R n ≡ true → S n ≡ true) → (k a : ℕ) → k < kinds
+    → chosen R f k a ≡ true → chosen S f k a ≡ true
+unfolding chosen
+chosen-grows f R S more k a h = pick (ltb a maxActions) refl
+  where
+    pick : (b : Bool) → ltb a maxActions ≡ b → (b && R (numberOf f k a)) ≡ true → (b && S (numberOf f k a)) ≡ true
+    pick true e =
+        let small : a < maxActions = ltb-true a maxActions e in
+        more (numberOf f k a) (omega arith)
+    pick false e = λ t. t
+
+pub repaired-eases : (c : Cells) (r : Course) (f : ℕ) (R S : ℕ → Bool)
+    → ((n : ℕ) → factOf n ≡ f → R n ≡ true → S n ≡ true) → Eases f r (repaired c R) (repaired c S)
+repaired-eases c r f R S more = record {
+  needs = λ i h. dropped (c .needs (r .step i) f) dropNeed (r .step i) (omega arith);
+  adds = λ i h.
+      or-grows (c .adds (r .step i) f) (chosen R f addEffect (r .step i)) (chosen S f addEffect (r .step i))
+      (chosen-grows f R S more addEffect (r .step i) (omega arith));
+  deletes = λ i h. dropped (c .deletes (r .step i) f) dropDelete (r .step i) (omega arith);
+}
+  where
+    -- what S does not drop, R does not drop either
+    dropped : (b : Bool) (k a : ℕ) → k < kinds → (b && not (chosen S f k a)) ≡ true → (b && not (chosen R f k a)) ≡ true
+    dropped b k a h =
+        and-grows b (not (chosen S f k a)) (not (chosen R f k a))
+        (not-shrinks (chosen R f k a) (chosen S f k a) (chosen-grows f R S more k a h))
+
+pub right-more : (c : Cells) (r : Course) (f : ℕ) (R S : ℕ → Bool)
+    → ((n : ℕ) → factOf n ≡ f → R n ≡ true → S n ≡ true) → Right (repaired c R) r f → Right (repaired c S) r f
+right-more c r f R S more = right-eases f r (repaired c R) (repaired c S) (repaired-eases c r f R S more)
+
+-- ---- one fact's part of a list
+
+-- part holds those members of l that are repairs of fact f, and no other repair of f.
+pub record PartOf (f : ℕ) (l part : List ℕ) : Type 0 where
+  pub within : (n : ℕ) → factOf n ≡ f → isIn part n ≡ true → isIn l n ≡ true
+  pub all : (n : ℕ) → factOf n ≡ f → isIn l n ≡ true → isIn part n ≡ true
+
+part-agree : (f : ℕ) (l part : List ℕ) → PartOf f l part → (n : ℕ) → factOf n ≡ f → isIn l n ≡ isIn part n
+part-agree f l part p n e = same-flag (isIn l n) (isIn part n) (p .all n e) (p .within n e)
+
+pub right-of-part : (c : Cells) (r : Course) (f : ℕ) (l part : List ℕ) → PartOf f l part
+    → Right (repaired c (isIn l)) r f → Right (repaired c (isIn part)) r f
+right-of-part c r f l part p = right-agree c r f (isIn l) (isIn part) (part-agree f l part p)
+
+pub right-of-whole : (c : Cells) (r : Course) (f : ℕ) (l part : List ℕ) → PartOf f l part
+    → Right (repaired c (isIn part)) r f → Right (repaired c (isIn l)) r f
+right-of-whole c r f l part p =
+    right-agree c r f (isIn part) (isIn l) (λ n e. sym (part-agree f l part p n e))
+
+-- Every ascending list has its part of each fact, which is an ascending list of repairs of that fact alone.
+pub record FactPart (f : ℕ) (l : List ℕ) : Type 0 where
+  pub part : List ℕ
+  pub ascending : Ascending part
+  pub own : (n : ℕ) → isIn part n ≡ true → factOf n ≡ f
+  pub inside : (n : ℕ) → isIn part n ≡ true → isIn l n ≡ true
+  pub part-of : PartOf f l part
+
+pub fact-part : (f : ℕ) (l : List ℕ) → Ascending l → FactPart f l
+fact-part f l u = record {
+  part = middle .left;
+  ascending = ascending-weaken 0 (perFact * f) (middle .left) (omega arith) (middle .left-ascending);
+  own = λ n h.
+      let low : perFact * f ≤ n = upper .above n (to-right n h) in
+      let high : n < perFact * suc f = middle .below n h in
+      omega arith;
+  inside = λ n h. split-right-in 0 l (perFact * f) upper n (to-right n h);
+  part-of = record {
+    within = λ n e h. split-right-in 0 l (perFact * f) upper n (to-right n h);
+    all = λ n e h. from-middle n e (split-either (perFact * f) (upper .right) (perFact * suc f) middle n
+        (from-upper n e (split-either 0 l (perFact * f) upper n h)));
+  };
+}
+  where
+    upper : Split 0 l (perFact * f)
+    upper = split-at 0 l u (perFact * f)
+
+    middle : Split (perFact * f) (upper .right) (perFact * suc f)
+    middle = split-at (perFact * f) (upper .right) (upper .right-ascending) (perFact * suc f)
+
+    to-right : (n : ℕ) → isIn (middle .left) n ≡ true → isIn (upper .right) n ≡ true
+    to-right n h = split-left-in (perFact * f) (upper .right) (perFact * suc f) middle n h
+
+    from-upper : (n : ℕ) → factOf n ≡ f → (isIn (upper .left) n ≡ true) ⊎ (isIn (upper .right) n ≡ true)
+        → isIn (upper .right) n ≡ true
+    from-upper n e (inl h) = absurd (omega (arith, upper .below n h))
+    from-upper n e (inr h) = h
+
+    from-middle : (n : ℕ) → factOf n ≡ f → (isIn (middle .left) n ≡ true) ⊎ (isIn (middle .right) n ≡ true)
+        → isIn (middle .left) n ≡ true
+    from-middle n e (inl h) = h
+    from-middle n e (inr h) = absurd (omega (arith, middle .above n h))

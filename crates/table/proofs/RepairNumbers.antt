@@ -1,0 +1,94 @@
+-- The number of a repair and back (document 01, "The model and its run"): both ways round, in range, and told apart; what a permitted
+-- number names. Assumes nothing.
+use mathlib.Core.Bool.{Bool, true, false, not, _&&_}
+use mathlib.Core.Path.{_≡_, refl, _∙_}
+use Prim.Native.Nat.{ℕ, _≤_, _<_}
+use native.Mathlib.Omega.{arith}
+use lib.Dec.{ltb}
+use borrow.Author.Tests.{ltb-true, lt-ltb, le-ltb}
+use Rattle.table.specs.Sizes.{maxFacts, maxActions, kinds, lastRepair, unused}
+use Rattle.table.specs.Strips.{Cells}
+use Rattle.table.specs.Repairs.{byKind, numberOf, factOf, kindOf, actionOf, numbered, permits, permitted}
+use Rattle.table.proofs.Bools.{both, both-true}
+
+-- ---- the number and back
+
+pub kindOf-lt : (n : ℕ) → kindOf n < kinds
+kindOf-lt n = omega arith
+
+pub actionOf-lt : (n : ℕ) → actionOf n < maxActions
+actionOf-lt n = omega arith
+
+pub factOf-lt : (n : ℕ) → n ≤ lastRepair → factOf n < maxFacts
+factOf-lt n h = omega arith
+
+pub number-back : (n : ℕ) → numberOf (factOf n) (kindOf n) (actionOf n) ≡ n
+number-back n = omega arith
+
+pub fact-back : (f k a : ℕ) → k < kinds → a < maxActions → factOf (numberOf f k a) ≡ f
+fact-back f k a hk ha = omega arith
+
+pub kind-back : (f k a : ℕ) → k < kinds → a < maxActions → kindOf (numberOf f k a) ≡ k
+kind-back f k a hk ha = omega arith
+
+pub action-back : (f k a : ℕ) → k < kinds → a < maxActions → actionOf (numberOf f k a) ≡ a
+action-back f k a hk ha = omega arith
+
+pub numberOf-lt : (f k a : ℕ) → f < maxFacts → k < kinds → a < maxActions → numberOf f k a ≤ lastRepair
+numberOf-lt f k a hf hk ha = omega arith
+
+pub numberOf-injective : (f k a g j b : ℕ) → k < kinds → a < maxActions → j < kinds → b < maxActions → numberOf f k a ≡ numberOf g j b → (f ≡ g) × (k ≡ j) × (a ≡ b)
+numberOf-injective f k a g j b hk ha hj hb e = omega arith
+
+-- ---- the code's number, which a repair outside has too
+
+pub numbered-inside : (f k a : ℕ) → f < maxFacts → k < kinds → a < maxActions → numbered f k a ≡ numberOf f k a
+unfolding numbered
+numbered-inside f k a hf hk ha = rw (lt-ltb f maxFacts hf, lt-ltb k kinds hk, lt-ltb a maxActions ha)
+
+pub numbered-back : (n : ℕ) → n ≤ lastRepair → numbered (factOf n) (kindOf n) (actionOf n) ≡ n
+numbered-back n h = numbered-inside (factOf n) (kindOf n) (actionOf n) (factOf-lt n h) (kindOf-lt n) (actionOf-lt n) ∙ number-back n
+
+-- ---- what a permitted repair names
+
+pub permits-inside : (c : Cells) (f k a : ℕ) → permits c f k a ≡ true → (f < c .facts) × (a < c .actions)
+unfolding permits
+permits-inside c f k a h =
+    let cell : Bool = byKind k (c .deletes a f) (not (c .adds a f)) (c .needs a f) in
+    let p = both (ltb f (c .facts) && ltb a (c .actions)) cell h .0 in
+    let q = both (ltb f (c .facts)) (ltb a (c .actions)) p in
+    (ltb-true f (c .facts) (q .0), ltb-true a (c .actions) (q .1))
+
+pub permits-cell : (c : Cells) (f k a : ℕ) → permits c f k a ≡ true → byKind k (c .deletes a f) (not (c .adds a f)) (c .needs a f) ≡ true
+unfolding permits
+permits-cell c f k a h = both (ltb f (c .facts) && ltb a (c .actions)) _ h .1
+
+pub inside-permits : (c : Cells) (f k a : ℕ)
+    → f < c .facts
+    → a < c .actions
+    → byKind k (c .deletes a f) (not (c .adds a f)) (c .needs a f) ≡ true
+    → permits c f k a ≡ true
+unfolding permits
+inside-permits c f k a hf ha h = both-true (both-true (lt-ltb f (c .facts) hf) (lt-ltb a (c .actions) ha)) h
+
+pub permitted-permits : (c : Cells) (n : ℕ) → permitted c n ≡ permits c (factOf n) (kindOf n) (actionOf n)
+unfolding permitted
+permitted-permits c n = refl
+
+pub permitted-inside : (c : Cells) (n : ℕ) → permitted c n ≡ true → (factOf n < c .facts) × (actionOf n < c .actions)
+unfolding permitted
+permitted-inside c n h = permits-inside c (factOf n) (kindOf n) (actionOf n) h
+
+-- a number past the last names no permitted repair of a task in range
+pub permitted-outside : (c : Cells) (n : ℕ) → c .facts ≤ maxFacts → lastRepair < n → permitted c n ≡ false
+unfolding permitted permits
+permitted-outside c n hc h =
+    let e : ltb (factOf n) (c .facts) ≡ false = le-ltb (factOf n) (c .facts) (omega arith) in
+    rw e
+
+pub permitted-unused : (c : Cells) → c .facts ≤ maxFacts → permitted c unused ≡ false
+permitted-unused c hc = permitted-outside c unused hc (omega arith)
+
+pub permitted-number : (c : Cells) (f k a : ℕ) → k < kinds → a < maxActions → permitted c (numberOf f k a) ≡ permits c f k a
+unfolding permitted
+permitted-number c f k a hk ha = rw (fact-back f k a hk ha, kind-back f k a hk ha, action-back f k a hk ha)

@@ -1,0 +1,12 @@
+-- The meaning: what a reader must believe, to be read against source document 001 (Definitions 1 to 3) and document 01.
+-- Nothing here mentions rows, searches or code.
+pub mod Sizes
+pub mod Refusals
+pub mod Counting
+pub mod Lists
+pub mod Strips
+pub mod Order
+pub mod Repairs
+pub mod Answer
+pub mod Join
+pub mod Tasks

@@ -1,0 +1,116 @@
+// The action table, the run and the task by value (document 01, "Sizes" and "The model and its run"); the meaning of
+// them is in specs/.
+pub mod formed;
+pub mod refusals;
+pub mod repair;
+
+use repair::Repair;
+ghost use mathlib.Core.Path.{_≡_};
+ghost use Rattle.table.specs.Sizes.{maxFacts, maxActions, maxSteps, maxLimit, maxRow, rowPlaces, sessionPlaces, unused, kinds, perFact, perKind, lastRepair};
+ghost use Rattle.table.specs.Repairs.{dropDelete, addEffect, dropNeed};
+
+// The sizes of document 01, by one name each; `bounds` shows that they are those of specs/Sizes.
+pub const FACTS: usize = 64;
+
+pub const ACTIONS: usize = 32;
+
+pub const STEPS: usize = 64;
+
+pub const LIMIT: usize = 6;
+
+pub const ROW: usize = 6;
+
+pub const ROW_PLACES: usize = 7;
+
+pub const SESSION_PLACES: usize = 448;
+
+pub const UNUSED: u16 = 65535;
+
+// What each action needs, adds and deletes, a mask of facts each, with the sizes and the limit.
+pub struct Table {
+    pub facts: usize,
+    pub actions: usize,
+    pub limit: usize,
+    pub needs: [u64; ACTIONS],
+    pub adds: [u64; ACTIONS],
+    pub deletes: [u64; ACTIONS],
+}
+
+// One known run: what holds at the start, what must hold at the end, and the steps.
+pub struct Run {
+    pub start: u64,
+    pub goal: u64,
+    pub count: usize,
+    pub steps: [u8; STEPS],
+}
+
+pub struct Task {
+    pub table: Table,
+    pub run: Run,
+}
+
+// What a call answers beside what it writes: 0 and 0, or the refusal's number and place; and how much it wrote.
+pub struct Reply {
+    pub number: usize,
+    pub place: usize,
+    pub length: usize,
+}
+
+// Every size and stride of the code, to be compared with the definitions' in one contract.
+pub struct Constants {
+    pub facts: usize,
+    pub actions: usize,
+    pub steps: usize,
+    pub limit: usize,
+    pub row: usize,
+    pub row_places: usize,
+    pub session_places: usize,
+    pub unused: usize,
+    pub kinds: usize,
+    pub drop_delete: usize,
+    pub add_effect: usize,
+    pub drop_need: usize,
+    pub per_fact: usize,
+    pub per_kind: usize,
+    pub last_repair: usize,
+}
+
+pub fn bounds() -> Constants
+    ensures { λ r.
+        ⌜ r ≡
+        record {
+          facts = maxFacts;
+          actions = maxActions;
+          steps = maxSteps;
+          limit = maxLimit;
+          row = maxRow;
+          «row_places» = rowPlaces;
+          «session_places» = sessionPlaces;
+          unused = unused;
+          kinds = kinds;
+          «drop_delete» = dropDelete;
+          «add_effect» = addEffect;
+          «drop_need» = dropNeed;
+          «per_fact» = perFact;
+          «per_kind» = perKind;
+          «last_repair» = lastRepair;
+        } ⌝ }
+{
+    Constants {
+        facts: FACTS,
+        actions: ACTIONS,
+        steps: STEPS,
+        limit: LIMIT,
+        row: ROW,
+        row_places: ROW_PLACES,
+        session_places: SESSION_PLACES,
+        unused: UNUSED as usize,
+        kinds: Repair::KINDS,
+        drop_delete: Repair::DROP_DELETE,
+        add_effect: Repair::ADD_EFFECT,
+        drop_need: Repair::DROP_NEED,
+        per_fact: Repair::PER_FACT,
+        per_kind: Repair::PER_KIND,
+        last_repair: Repair::LAST,
+    }
+}
