@@ -1,0 +1,3 @@
+-- What the run check's contracts cite.
+pub mod OpenNeeds
+pub mod Tallies

@@ -1,0 +1,40 @@
+-- The run check's running values: what the open needs of the first n steps come to, and how one step more is noted. The report of
+-- OpenNeeds is the tally of all n + 1 steps.
+use mathlib.Core.Bool.{cond, not, _&&_}
+use Prim.Native.Nat.{ℕ, _+_}
+use lib.Dec.{eqb, ltb}
+use Rattle.facts.specs.Sets.{joined, removed, count, lowest}
+use Rattle.table.specs.Counting.{sumBelow, firstWhere}
+use Rattle.table.specs.Strips.{Cells, Course}
+use Rattle.runcheck.specs.OpenNeeds.{isOpen, openAt}
+use Rattle.runcheck.specs.declared.Tally.{Tally}
+
+-- "Afterwards the state is (state without deletes) joined with adds", of masks.
+abbrev pub stepped : ℕ → ℕ → ℕ → ℕ
+stepped state adds deletes = joined (removed state deletes) adds
+
+-- Nothing is open yet.
+abbrev pub nothing : Tally
+nothing = record { total = 0; step = 0; fact = 0 }
+
+-- Of the first n steps: the first that has an open need; n where there is none.
+unfoldable pub firstBelow : Cells → Course → ℕ → ℕ
+firstBelow c r n = firstWhere (λ i. ltb 0 (openAt c r i)) n
+
+-- The tally of the first n steps.
+unfoldable pub tallyAt : Cells → Course → ℕ → Tally
+tallyAt c r n =
+    cond {A = Tally} (eqb (sumBelow (openAt c r) n) 0)
+    nothing
+    (record {
+      total = sumBelow (openAt c r) n;
+      step = firstBelow c r n + 1;
+      fact = firstWhere (isOpen c r (firstBelow c r n)) (c .facts);
+    })
+
+-- The tally with one step more, whose open needs are the mask `absent`; the step is counted from 1.
+unfoldable pub noted : Tally → ℕ → ℕ → Tally
+noted s absent step =
+    cond {A = Tally} (eqb (s .total) 0 && not (eqb absent 0))
+    (record { total = s .total + count absent; step = step; fact = lowest absent })
+    (record { total = s .total + count absent; step = s .step; fact = s .fact })
