@@ -1,0 +1,302 @@
+-- Laws of applying a list: numbers made one after another are made at once; the answer is the only one; a well-formed task stays well
+-- formed, and a list that works makes the run valid. Assumes nothing.
+use mathlib.Core.Bool.{Bool, true, false, not, _&&_, _||_, cond, or-true, or-false, and-true, and-false, and-or-distrib-left}
+use mathlib.Core.List.{List, [], _∷_}
+use mathlib.Core.Path.{_≡_, refl, sym, ap, _∙_, subst}
+use Prim.Native.Nat.{ℕ, zero, suc, _-_, _<_, _≤_}
+use native.Mathlib.Nat.{le-refl}
+use native.Mathlib.Omega.{arith}
+use lib.Dec.{eqb, ltb}
+use lib.ListN.{length, getD, take}
+use lib.Seq.{take-suc, take-length, ext-getD}
+use borrow.Author.Tests.{ltb-true, lt-ltb, le-ltb, eqb-true, eqb-false, eq-eqb}
+use Rattle.facts.specs.Sets.{width, has}
+use Rattle.facts.proofs.Laws.{same-sets}
+use Rattle.table.proofs.Bools.{both, both-true}
+use Rattle.table.proofs.Formation.{formed-well}
+use Rattle.table.proofs.FlagLaws.{same-flag}
+use Rattle.table.proofs.OrderLaws.{isIn-append}
+use Rattle.table.proofs.RepairNumbers.{kindOf-lt, actionOf-lt, permitted-inside, permitted-number, permits-inside}
+use Rattle.table.proofs.RunLaws.{sameCourse-refl, right-same, right-valid, valid-right}
+use Rattle.table.specs.Answer.{Permitted}
+use Rattle.table.specs.Order.{isIn}
+use Rattle.table.specs.Refusals.{Refusal, none, accepted, notWellFormed, listNotPermitted, firstOf}
+use Rattle.table.specs.Repairs.{dropDelete, addEffect, dropNeed, numberOf, factOf, kindOf, actionOf, permitted, chosen, repaired}
+use Rattle.table.specs.Sizes.{maxActions, kinds}
+use Rattle.table.specs.Strips.{Cells, Valid}
+use Rattle.table.specs.Tasks.{cellsOf, courseOf, maskOf, WorksFor, formed, Shaped, WellFormed}
+use Rattle.table.specs.declared.Run.{Run}
+use Rattle.table.specs.declared.Table.{Table}
+use Rattle.table.specs.declared.Task.{Task}
+use Rattle.change.specs.Applying.{firstWrong, applyRefusal, AppliedTo, Applies}
+use Rattle.change.specs.declared.Applied.{Applied}
+use Rattle.change.specs.Kinds.{numberSet, oneByOne}
+use Rattle.change.proofs.KindLaws.{kind-cases, setsOf, mask-sets, Long, shaped-long, long-shaped, long-kindSet, cell-kindSet, sizes-kindSet}
+use Rattle.change.proofs.SameLaws.{outside-well}
+use Rattle.change.proofs.MemberLaws.{getD-isIn}
+use Rattle.change.proofs.PermittedLaws.{firstWrong-le, permitted-list}
+
+-- ---- numbers made one after another are made at once
+
+-- the cell (k, a, g) is the one that the number n names
+number-same : (g k a n : ℕ) → k < kinds
+    → (ltb a maxActions && eqb (numberOf g k a) n) ≡ (eqb k (kindOf n) && eqb a (actionOf n) && eqb g (factOf n))
+number-same g k a n hk = same-flag (ltb a maxActions && eqb (numberOf g k a) n) (eqb k (kindOf n) && eqb a (actionOf n) && eqb g (factOf n)) there back
+  where
+    there : (ltb a maxActions && eqb (numberOf g k a) n) ≡ true → (eqb k (kindOf n) && eqb a (actionOf n) && eqb g (factOf n)) ≡ true
+    there h =
+        let p = both (ltb a maxActions) (eqb (numberOf g k a) n) h in
+        let ha = ltb-true a maxActions (p .0) in
+        let e = eqb-true (numberOf g k a) n (p .1) in
+        both-true (both-true (eq-eqb k (kindOf n) (omega arith)) (eq-eqb a (actionOf n) (omega arith))) (eq-eqb g (factOf n) (omega arith))
+
+    back : (eqb k (kindOf n) && eqb a (actionOf n) && eqb g (factOf n)) ≡ true → (ltb a maxActions && eqb (numberOf g k a) n) ≡ true
+    back h =
+        let p = both (eqb k (kindOf n) && eqb a (actionOf n)) (eqb g (factOf n)) h in
+        let q = both (eqb k (kindOf n)) (eqb a (actionOf n)) (p .0) in
+        let ek = eqb-true k (kindOf n) (q .0) in
+        let ea = eqb-true a (actionOf n) (q .1) in
+        let eg = eqb-true g (factOf n) (p .1) in
+        both-true (lt-ltb a maxActions (omega (arith, actionOf-lt n))) (eq-eqb (numberOf g k a) n (omega arith))
+
+chosen-more : (l : List ℕ) (i g k a : ℕ) → i < length l → k < kinds
+    → chosen (isIn (take (suc i) l)) g k a
+    ≡ (chosen (isIn (take i l)) g k a || eqb k (kindOf (getD l i 0)) && eqb a (actionOf (getD l i 0)) && eqb g (factOf (getD l i 0)))
+unfolding chosen isIn
+chosen-more l i g k a h hk =
+    let n = getD l i 0 in
+    let m = numberOf g k a in
+    ap (λ (s : List ℕ). ltb a maxActions && isIn s m) (take-suc l i 0 h) ∙
+    ap (λ (b : Bool). ltb a maxActions && b) (isIn-append (take i l) (n ∷ []) m) ∙
+    and-or-distrib-left (ltb a maxActions) (isIn (take i l) m) (eqb m n || false) ∙
+    ap (λ (b : Bool). ltb a maxActions && isIn (take i l) m || b) (ap (λ (b : Bool). ltb a maxActions && b) (or-false (eqb m n)) ∙ number-same g k a n hk)
+
+-- one number more: its cell has the value of its kind, whatever was made before
+make-more : (same before value now old : Bool) → (same ≡ true → value ≡ now) → cond same value (cond before now old) ≡ cond (before || same) now old
+make-more true true value now old e = e refl
+make-more true false value now old e = e refl
+make-more false true value now old e = refl
+make-more false false value now old e = refl
+
+module _ (t : Table) (long : Long t) (l : List ℕ) where
+  long-oneByOne : (i : ℕ) → Long (oneByOne t l i)
+  unfolding oneByOne numberSet
+  long-oneByOne zero = long
+  long-oneByOne (suc i) =
+      let n = getD l i 0 in
+      long-kindSet (oneByOne t l i) (actionOf n) (factOf n) (eqb (kindOf n) addEffect) (long-oneByOne i) (kindOf n) (kindOf-lt n)
+
+  sizes-oneByOne : (i : ℕ) → (oneByOne t l i .facts ≡ t .facts) × (oneByOne t l i .actions ≡ t .actions) × (oneByOne t l i .limit ≡ t .limit)
+  unfolding oneByOne numberSet
+  sizes-oneByOne zero = (refl, refl, refl)
+  sizes-oneByOne (suc i) =
+      let n = getD l i 0 in
+      let more = sizes-kindSet (oneByOne t l i) (actionOf n) (factOf n) (eqb (kindOf n) addEffect) (kindOf n) (kindOf-lt n) in
+      let before = sizes-oneByOne i in
+      (more .0 ∙ before .0, more .1 ∙ before .1, more .2 ∙ before .2)
+
+  cell-oneByOne : ((j : ℕ) → j < length l → factOf (getD l j 0) < width) → (i : ℕ) → i ≤ length l → (k a g : ℕ) → k < kinds
+      → has (maskOf (oneByOne t l i) k a) g ≡ cond (chosen (isIn (take i l)) g k a) (eqb k addEffect) (has (maskOf t k a) g)
+  unfolding oneByOne numberSet chosen isIn
+  cell-oneByOne fits zero h k a g hk = ap (λ (b : Bool). cond b (eqb k addEffect) (has (maskOf t k a) g)) (sym (and-false (ltb a maxActions)))
+  cell-oneByOne fits (suc i) h k a g hk =
+      let n = getD l i 0 in
+      let same = eqb k (kindOf n) && eqb a (actionOf n) && eqb g (factOf n) in
+      let before = chosen (isIn (take i l)) g k a in
+      cell-kindSet (oneByOne t l i) (actionOf n) (factOf n) (eqb (kindOf n) addEffect) (long-oneByOne i) (actionOf-lt n) (fits i h) (kindOf n) (kindOf-lt n) k a g hk ∙
+      ap (λ (b : Bool). cond same (eqb (kindOf n) addEffect) b) (cell-oneByOne fits i (omega arith) k a g hk) ∙
+      make-more same before (eqb (kindOf n) addEffect) (eqb k addEffect) (has (maskOf t k a) g) (λ e. ap (λ (j : ℕ). eqb j addEffect) (sym (named k a g n e))) ∙
+      ap (λ (b : Bool). cond b (eqb k addEffect) (has (maskOf t k a) g)) (sym (chosen-more l i g k a h hk))
+    where
+      named : (k a g n : ℕ) → (eqb k (kindOf n) && eqb a (actionOf n) && eqb g (factOf n)) ≡ true → k ≡ kindOf n
+      named k a g n e =
+          let p = both (eqb k (kindOf n) && eqb a (actionOf n)) (eqb g (factOf n)) e in
+          eqb-true k (kindOf n) (both (eqb k (kindOf n)) (eqb a (actionOf n)) (p .0) .0)
+
+-- ---- the definition, once over the kind
+
+dropped : (c b : Bool) → cond c false b ≡ (b && not c)
+dropped true b = sym (and-false b)
+dropped false b = sym (and-true b)
+
+added : (c b : Bool) → cond c true b ≡ (b || c)
+added true b = sym (or-true b)
+added false b = sym (or-false b)
+
+-- each cell of the table with a list applied: chosen, it has the value of its kind, and else its old one
+pub applied-cell : (t : Task) (l : List ℕ) (u : Task) → AppliedTo t l u → (a g k : ℕ) → k < kinds
+    → has (maskOf (u .table) k a) g ≡ cond (chosen (isIn l) g k a) (eqb k addEffect) (has (maskOf (t .table) k a) g)
+unfolding cellsOf
+applied-cell t l u d a g =
+    kind-cases (λ k. has (maskOf (u .table) k a) g ≡ cond (chosen (isIn l) g k a) (eqb k addEffect) (has (maskOf (t .table) k a) g))
+    (d .deletes a g ∙ sym (dropped (chosen (isIn l) g dropDelete a) (has (maskOf (t .table) dropDelete a) g)))
+    (d .adds a g ∙ sym (added (chosen (isIn l) g addEffect a) (has (maskOf (t .table) addEffect a) g)))
+    (d .needs a g ∙ sym (dropped (chosen (isIn l) g dropNeed a) (has (maskOf (t .table) dropNeed a) g)))
+
+-- "Applying a list changes all its cells at once", and so does making its numbers one after another
+pub made-applied : (t : Task) (l : List ℕ) → Shaped t → ((j : ℕ) → j < length l → factOf (getD l j 0) < width)
+    → AppliedTo t l (record { table = oneByOne (t .table) l (length l); run = t .run })
+unfolding cellsOf
+made-applied t l s fits =
+    let long = shaped-long t s in
+    let sizes = sizes-oneByOne (t .table) long l (length l) in
+    let cell : (k a g : ℕ) → k < kinds
+    → has (maskOf (oneByOne (t .table) l (length l)) k a) g ≡ cond (chosen (isIn l) g k a) (eqb k addEffect) (has (maskOf (t .table) k a) g) =
+    λ k a g hk.
+    cell-oneByOne (t .table) long l fits (length l) (le-refl (length l)) k a g hk ∙
+    ap (λ (w : List ℕ). cond (chosen (isIn w) g k a) (eqb k addEffect) (has (maskOf (t .table) k a) g)) (take-length l) in
+    record {
+      shaped = long-shaped (oneByOne (t .table) l (length l)) t (long-oneByOne (t .table) long l (length l)) s;
+      run = refl;
+      facts = sizes .0;
+      actions = sizes .1;
+      limit = sizes .2;
+      needs = λ a f. cell dropNeed a f (omega arith) ∙ dropped (chosen (isIn l) f dropNeed a) (has (maskOf (t .table) dropNeed a) f);
+      adds = λ a f. cell addEffect a f (omega arith) ∙ added (chosen (isIn l) f addEffect a) (has (maskOf (t .table) addEffect a) f);
+      deletes = λ a f. cell dropDelete a f (omega arith) ∙ dropped (chosen (isIn l) f dropDelete a) (has (maskOf (t .table) dropDelete a) f);
+    }
+
+-- ---- the task with a list applied is the only one, and stays well formed
+
+applied-sets : (t : Task) (l : List ℕ) (u v : Task) → AppliedTo t l u → AppliedTo t l v → (k : ℕ) → k < kinds → setsOf (u .table) k ≡ setsOf (v .table) k
+applied-sets t l u v d e k hk =
+    let long = shaped-long u (d .shaped) in
+    ext-getD 0 (setsOf (u .table) k) (setsOf (v .table) k) (long k hk ∙ sym (shaped-long v (e .shaped) k hk)) (λ a h.
+    sym (mask-sets (u .table) a k hk) ∙
+    same-sets (maskOf (u .table) k a) (maskOf (v .table) k a) (λ f. applied-cell t l u d a f k hk ∙ sym (applied-cell t l v e a f k hk)) ∙
+    mask-sets (v .table) a k hk)
+
+pub applied-unique : (t : Task) (l : List ℕ) (u v : Task) → AppliedTo t l u → AppliedTo t l v → u ≡ v
+applied-unique t l u v d e =
+    let needs : u .table .needs ≡ v .table .needs = applied-sets t l u v d e dropNeed (omega arith) in
+    let adds : u .table .adds ≡ v .table .adds = applied-sets t l u v d e addEffect (omega arith) in
+    let deletes : u .table .deletes ≡ v .table .deletes = applied-sets t l u v d e dropDelete (omega arith) in
+    let facts = d .facts ∙ sym (e .facts) in
+    let actions = d .actions ∙ sym (e .actions) in
+    let limit = d .limit ∙ sym (e .limit) in
+    let run = d .run ∙ sym (e .run) in
+    λ i. record {
+      table = record { facts = facts i; actions = actions i; limit = limit i; needs = needs i; adds = adds i; deletes = deletes i };
+      run = run i;
+    }
+
+-- a list that is permitted chooses no cell outside the task
+chosen-outside : (c : Cells) (l : List ℕ) → Permitted c l → (g k a : ℕ) → k < kinds → (g < c .facts → a < c .actions → ⊥) → chosen (isIn l) g k a ≡ false
+unfolding chosen
+chosen-outside c l p g k a hk out = pick (ltb a maxActions && isIn l (numberOf g k a)) refl
+  where
+    pick : (b : Bool) → (ltb a maxActions && isIn l (numberOf g k a)) ≡ b → b ≡ false
+    pick true e =
+        let q = both (ltb a maxActions) (isIn l (numberOf g k a)) e in
+        let inside =
+        permits-inside c g k a
+        (sym (permitted-number c g k a hk (ltb-true a maxActions (q .0))) ∙ p .each (numberOf g k a) (q .1)) in
+        absurd (out (inside .0) (inside .1))
+    pick false e = refl
+
+pub applied-well : (t : Task) (l : List ℕ) (u : Task) → WellFormed t → Permitted (cellsOf (t .table)) l → AppliedTo t l u → WellFormed u
+unfolding cellsOf
+applied-well t l u w p d =
+    outside-well t u w
+    (record {
+      shaped = d .shaped;
+      sizes = record {
+        facts = d .facts;
+        actions = d .actions;
+        limit = d .limit;
+        count = ap (λ (r : Run). r .count) (d .run);
+        steps = ap (λ (r : Run). r .steps) (d .run);
+      };
+      cell = λ k a g hk out.
+          applied-cell t l u d a g k hk ∙
+          ap (λ (b : Bool). cond b (eqb k addEffect) (has (maskOf (t .table) k a) g)) (chosen-outside (cellsOf (t .table)) l p g k a hk out);
+      start = λ g h. ap (λ (r : Run). has (r .start) g) (d .run);
+      goal = λ g h. ap (λ (r : Run). has (r .goal) g) (d .run);
+    })
+
+-- a list that works, applied, gives a task whose run is valid as it stands
+pub applied-valid : (t : Task) (l : List ℕ) (u : Task) → AppliedTo t l u → WorksFor t l → Valid (cellsOf (u .table)) (courseOf (u .run))
+applied-valid t l u d w =
+    let c = repaired (cellsOf (t .table)) (isIn l) in
+    let r = courseOf (t .run) in
+    subst (λ (x : Run). Valid (cellsOf (u .table)) (courseOf x)) (sym (d .run))
+    (right-valid (cellsOf (u .table)) r (λ f.
+    right-same f r r c (cellsOf (u .table))
+    (record {
+      needs = λ i h. sym (d .needs (r .step i) f);
+      adds = λ i h. sym (d .adds (r .step i) f);
+      deletes = λ i h. sym (d .deletes (r .step i) f);
+    })
+    (sameCourse-refl f r) (valid-right c r (w .valid) f)))
+
+-- ---- the three ways out of `apply`
+
+refused-unformed : (t : Task) (l : List ℕ) → formed t ≡ false → applyRefusal t l ≡ record { number = notWellFormed; place = 0 }
+unfolding applyRefusal firstOf
+refused-unformed t l e = rw e
+
+refused-wrong : (t : Task) (l : List ℕ) → formed t ≡ true → firstWrong (cellsOf (t .table)) l < length l
+    → applyRefusal t l ≡ record { number = listNotPermitted; place = firstWrong (cellsOf (t .table)) l }
+unfolding applyRefusal firstOf
+refused-wrong t l e h = rw (e, lt-ltb (firstWrong (cellsOf (t .table)) l) (length l) h)
+
+not-refused : (t : Task) (l : List ℕ) → formed t ≡ true → length l ≤ firstWrong (cellsOf (t .table)) l → applyRefusal t l ≡ none
+unfolding applyRefusal firstOf
+not-refused t l e h = rw (e, le-ltb (firstWrong (cellsOf (t .table)) l) (length l) h)
+
+-- a refusal with the task as it was
+refuses : (t : Task) (l : List ℕ) (n p : ℕ) → (n ≡ accepted → ⊥) → applyRefusal t l ≡ record { number = n; place = p }
+    → Applies t l (record { number = n; place = p; task = t })
+refuses t l n p some e = record {
+  number = ap (λ (r : Refusal). r .number) (sym e);
+  place = ap (λ (r : Refusal). r .place) (sym e);
+  refused = λ _. refl;
+  applied = λ z. absurd (some z);
+}
+
+pub applies-unformed : (t : Task) (l : List ℕ) → formed t ≡ false → Applies t l (record { number = notWellFormed; place = 0; task = t })
+applies-unformed t l e = refuses t l notWellFormed 0 (λ z. omega arith) (refused-unformed t l e)
+
+pub applies-wrong : (t : Task) (l : List ℕ) (wrong : ℕ) → wrong ≡ firstWrong (cellsOf (t .table)) l → formed t ≡ true → wrong < length l
+    → Applies t l (record { number = listNotPermitted; place = wrong; task = t })
+applies-wrong t l wrong first e h =
+    refuses t l listNotPermitted wrong (λ z. omega arith)
+    (refused-wrong t l e (omega arith) ∙ ap (λ (p : ℕ). record { number = listNotPermitted; place = p }) (sym first))
+
+pub applies-made : (t : Task) (l : List ℕ) (u : Table) → u ≡ oneByOne (t .table) l (length l) → Shaped t → formed t ≡ true
+    → length l ≤ firstWrong (cellsOf (t .table)) l → Applies t l (record { number = accepted; place = 0; task = record { table = u; run = t .run } })
+unfolding cellsOf
+applies-made t l u made s e h = record {
+  number = ap (λ (r : Refusal). r .number) (sym (not-refused t l e h));
+  place = ap (λ (r : Refusal). r .place) (sym (not-refused t l e h));
+  refused = λ z. absurd (z refl);
+  applied = λ _.
+      subst (λ (v : Table). AppliedTo t l (record { table = v; run = t .run })) (sym made)
+      (made-applied t l s (λ j m. omega (arith, permitted-inside (cellsOf (t .table)) (getD l j 0) (allowed j m) .0, w .facts-high)));
+}
+  where
+    w : WellFormed t
+    w = formed-well t s e
+
+    p : Permitted (cellsOf (t .table)) l
+    p = permitted-list (cellsOf (t .table)) l (omega (arith, firstWrong-le (cellsOf (t .table)) l))
+
+    allowed : (j : ℕ) → j < length l → permitted (cellsOf (t .table)) (getD l j 0) ≡ true
+    allowed j m = p .each (getD l j 0) (getD-isIn l j m)
+
+-- ---- the contract determines the answer
+
+pub applies-unique : (t : Task) (l : List ℕ) (r s : Applied) → Applies t l r → Applies t l s → r ≡ s
+applies-unique t l r s p q =
+    let number : r .number ≡ s .number = p .number ∙ sym (q .number) in
+    let place : r .place ≡ s .place = p .place ∙ sym (q .place) in
+    let task = by-number (eqb (r .number) accepted) refl in
+    λ i. record { number = number i; place = place i; task = task i }
+  where
+    by-number : (b : Bool) → eqb (r .number) accepted ≡ b → r .task ≡ s .task
+    by-number true e =
+        let z : r .number ≡ accepted = eqb-true (r .number) accepted e in
+        applied-unique t l (r .task) (s .task) (p .applied z) (q .applied (q .number ∙ sym (p .number) ∙ z))
+    by-number false e =
+        let z : r .number ≡ accepted → ⊥ = eqb-false (r .number) accepted e in
+        p .refused z ∙ sym (q .refused (λ y. z (p .number ∙ sym (q .number) ∙ y)))

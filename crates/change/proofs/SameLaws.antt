@@ -1,0 +1,150 @@
+-- What two tasks can have in common, and what follows: a change inside the task keeps it well formed, and a fact that is the same keeps the
+-- lists that keep it right. Assumes nothing.
+use mathlib.Core.Bool.{Bool, false, not, _&&_, _||_, Bool·beq}
+use mathlib.Core.List.{List}
+use mathlib.Core.Path.{_≡_, sym, ap, _∙_, subst}
+use Prim.Native.Nat.{ℕ, _<_, _≤_}
+use native.Mathlib.Omega.{arith}
+use lib.Dec.{eqb, ltb}
+use lib.ListN.{getD}
+use Rattle.facts.specs.Sets.{has}
+use Rattle.facts.proofs.Laws.{same-sets}
+use Rattle.table.proofs.Formation.{byKind-all}
+use Rattle.table.proofs.RepairNumbers.{kindOf-lt}
+use Rattle.table.proofs.RunLaws.{SameAt, SameCourseAt, right-same}
+use Rattle.table.specs.Order.{isIn}
+use Rattle.table.specs.Repairs.{dropDelete, addEffect, dropNeed, factOf, kindOf, actionOf, permitted, chosen, repaired}
+use Rattle.table.specs.Sizes.{kinds}
+use Rattle.table.specs.Strips.{Course}
+use Rattle.table.specs.Tasks.{cellsOf, courseOf, maskOf, KeepsFor, Shaped, WellFormed}
+use Rattle.table.specs.declared.Task.{Task}
+use Rattle.change.proofs.KindLaws.{permitted-mask}
+
+-- ---- what two tasks have in common
+
+pub record SameSizes (t u : Task) : Type 0 where
+  pub facts : u .table .facts ≡ t .table .facts
+  pub actions : u .table .actions ≡ t .table .actions
+  pub limit : u .table .limit ≡ t .table .limit
+  pub count : u .run .count ≡ t .run .count
+  pub steps : u .run .steps ≡ t .run .steps
+
+-- the needs, adds and deletes of fact g, its start and its goal, and all sizes and steps
+pub record SameFact (g : ℕ) (t u : Task) : Type 0 where
+  pub sizes : SameSizes t u
+  pub cell : (k a : ℕ) → k < kinds → has (maskOf (u .table) k a) g ≡ has (maskOf (t .table) k a) g
+  pub start : has (u .run .start) g ≡ has (t .run .start) g
+  pub goal : has (u .run .goal) g ≡ has (t .run .goal) g
+
+-- every cell whose fact or action is outside
+pub record SameOutside (t u : Task) : Type 0 where
+  pub shaped : Shaped u
+  pub sizes : SameSizes t u
+  pub cell : (k a g : ℕ) → k < kinds → (g < t .table .facts → a < t .table .actions → ⊥)
+      → has (maskOf (u .table) k a) g ≡ has (maskOf (t .table) k a) g
+  pub start : (g : ℕ) → t .table .facts ≤ g → has (u .run .start) g ≡ has (t .run .start) g
+  pub goal : (g : ℕ) → t .table .facts ≤ g → has (u .run .goal) g ≡ has (t .run .goal) g
+
+-- ---- a change inside the task keeps it well formed
+
+pub outside-well : (t u : Task) → WellFormed t → SameOutside t u → WellFormed u
+outside-well t u w o = record {
+  shaped = o .shaped;
+  facts-low = omega (arith, w .facts-low);
+  facts-high = omega (arith, w .facts-high);
+  actions-low = omega (arith, w .actions-low);
+  actions-high = omega (arith, w .actions-high);
+  limit-high = omega (arith, w .limit-high);
+  count-high = omega (arith, w .count-high);
+  inside = λ k a f h.
+      byKind-all (λ (m : ℕ). has m f ≡ false) k (empty dropDelete a f (omega arith) h) (empty addEffect a f (omega arith) h)
+      (empty dropNeed a f (omega arith) h);
+  start-inside = λ f h.
+      let l : t .table .facts ≤ f = omega arith in
+      o .start f l ∙ w .start-inside f l;
+  goal-inside = λ f h.
+      let l : t .table .facts ≤ f = omega arith in
+      o .goal f l ∙ w .goal-inside f l;
+  steps-below = λ i h.
+      let e : getD (u .run .steps) i 0 ≡ getD (t .run .steps) i 0 = ap (λ (s : List ℕ). getD s i 0) (o .sizes .steps) in
+      omega (arith, w .steps-below i (omega arith));
+  actions-unused = λ k a h.
+      byKind-all (λ (m : ℕ). m ≡ 0) k (none dropDelete a (omega arith) h) (none addEffect a (omega arith) h)
+      (none dropNeed a (omega arith) h);
+  steps-unused = λ i h. ap (λ (s : List ℕ). getD s i 0) (o .sizes .steps) ∙ w .steps-unused i (omega arith);
+}
+  where
+    empty : (k a f : ℕ) → k < kinds → u .table .facts ≤ f → has (maskOf (u .table) k a) f ≡ false
+    empty k a f hk h =
+        let l : t .table .facts ≤ f = omega (arith, o .sizes .facts) in
+        o .cell k a f hk (λ m _. absurd (omega arith)) ∙ w .inside k a f l
+
+    none : (k a : ℕ) → k < kinds → u .table .actions ≤ a → maskOf (u .table) k a ≡ 0
+    none k a hk h =
+        let l : t .table .actions ≤ a = omega (arith, o .sizes .actions) in
+        same-sets (maskOf (u .table) k a) 0
+        (λ f. o .cell k a f hk (λ _ m. absurd (omega arith)) ∙ ap (λ (m : ℕ). has m f) (w .actions-unused k a l))
+
+-- ---- a fact that is the same keeps its lists
+
+pub same-back : (g : ℕ) (t u : Task) → SameFact g t u → SameFact g u t
+same-back g t u s = record {
+  sizes = record {
+    facts = sym (s .sizes .facts);
+    actions = sym (s .sizes .actions);
+    limit = sym (s .sizes .limit);
+    count = sym (s .sizes .count);
+    steps = sym (s .sizes .steps);
+  };
+  cell = λ k a h. sym (s .cell k a h);
+  start = sym (s .start);
+  goal = sym (s .goal);
+}
+
+module _ (g : ℕ) (t u : Task) (s : SameFact g t u) where
+  -- the two tables agree at g, whatever the actions of the run
+  pub same-cells : (r : Course) → SameAt g r (cellsOf (t .table)) (cellsOf (u .table))
+  unfolding cellsOf
+  same-cells r = record {
+    needs = λ i h. sym (s .cell dropNeed (r .step i) (omega arith));
+    adds = λ i h. sym (s .cell addEffect (r .step i) (omega arith));
+    deletes = λ i h. sym (s .cell dropDelete (r .step i) (omega arith));
+  }
+
+  -- and with the same repairs applied
+  pub same-repaired : (R : ℕ → Bool) (r : Course) → SameAt g r (repaired (cellsOf (t .table)) R) (repaired (cellsOf (u .table)) R)
+  same-repaired R r = record {
+    needs = λ i h. ap (λ (b : Bool). b && not (chosen R g dropNeed (r .step i))) (same-cells r .needs i h);
+    adds = λ i h. ap (λ (b : Bool). b || chosen R g addEffect (r .step i)) (same-cells r .adds i h);
+    deletes = λ i h. ap (λ (b : Bool). b && not (chosen R g dropDelete (r .step i))) (same-cells r .deletes i h);
+  }
+
+  pub same-course : SameCourseAt g (courseOf (t .run)) (courseOf (u .run))
+  unfolding courseOf
+  same-course = record {
+    start = sym (s .start);
+    goal = sym (s .goal);
+    count = sym (s .sizes .count);
+    steps = λ i h. ap (λ (l : List ℕ). getD l i 0) (sym (s .sizes .steps));
+  }
+
+  same-permitted : (n : ℕ) → factOf n ≡ g → permitted (cellsOf (t .table)) n ≡ permitted (cellsOf (u .table)) n
+  same-permitted n own =
+      let cell : has (maskOf (t .table) (kindOf n) (actionOf n)) (factOf n) ≡ has (maskOf (u .table) (kindOf n) (actionOf n)) (factOf n) =
+      subst (λ (f : ℕ). has (maskOf (t .table) (kindOf n) (actionOf n)) f ≡ has (maskOf (u .table) (kindOf n) (actionOf n)) f) (sym own)
+      (sym (s .cell (kindOf n) (actionOf n) (kindOf-lt n))) in
+      sym (permitted-mask (t .table) n) ∙
+      (λ i. ltb (factOf n) (sym (s .sizes .facts) i) && ltb (actionOf n) (sym (s .sizes .actions) i) && not (Bool·beq (cell i) (eqb (kindOf n) addEffect))) ∙
+      permitted-mask (u .table) n
+
+  pub keeps-same : (l : List ℕ) → KeepsFor t g l → KeepsFor u g l
+  keeps-same l k = record {
+    permitted = record {
+      ascending = k .permitted .ascending;
+      each = λ n h. sym (same-permitted n (k .own n h)) ∙ k .permitted .each n h;
+    };
+    own = k .own;
+    right =
+        right-same g (courseOf (t .run)) (courseOf (u .run)) (repaired (cellsOf (t .table)) (isIn l)) (repaired (cellsOf (u .table)) (isIn l))
+        (same-repaired (isIn l) (courseOf (t .run))) same-course (k .right);
+  }

@@ -1,0 +1,76 @@
+-- `change::editing::set_cell` meets its contract: each arm is its line of the definition, a need, an add or a delete by its kind. Assumes nothing.
+use Rattle.change.specs.Editing.{cellSet}
+use Rattle.change.specs.Kinds.{kindSet}
+use borrow.Author.Needs.{needs}
+use Rattle.change.proofs.editing.set_cell.Statement.{statement}
+use Rattle.change.proofs.editing.set_cell.Tie as tie
+
+enum-known-cell : tie.Need-enum-known-cell
+enum-known-cell c = search needs
+
+set-of-kind-requires : tie.Need-set-of-kind-requires
+set-of-kind-requires c κs = search needs
+
+enum-known-cell-2 : tie.Need-enum-known-cell-2
+enum-known-cell-2 c = search needs
+
+set-of-kind-requires-2 : tie.Need-set-of-kind-requires-2
+set-of-kind-requires-2 c κs = search needs
+
+enum-known-cell-3 : tie.Need-enum-known-cell-3
+enum-known-cell-3 c = search needs
+
+set-of-kind-requires-3 : tie.Need-set-of-kind-requires-3
+set-of-kind-requires-3 c κs = search needs
+
+enum-known-cell-4 : tie.Need-enum-known-cell-4
+enum-known-cell-4 c = search needs
+
+set-fact-requires : tie.Need-set-fact-requires
+set-fact-requires c κs = search needs
+
+enum-known-cell-5 : tie.Need-enum-known-cell-5
+enum-known-cell-5 c = search needs
+
+set-fact-requires-2 : tie.Need-set-fact-requires-2
+set-fact-requires-2 c κs = search needs
+
+returns : tie.Need-returns
+unfolding cellSet kindSet
+returns c = rw (c .set-of-kind .ensures, c .before .before .cell .given .1)
+
+returns-2 : tie.Need-returns-2
+unfolding cellSet kindSet
+returns-2 c = rw (c .set-of-kind2 .ensures, c .before .before .cell2 .given .1)
+
+returns-3 : tie.Need-returns-3
+unfolding cellSet kindSet
+returns-3 c = rw (c .set-of-kind3 .ensures, c .before .before .cell3 .given .1)
+
+returns-4 : tie.Need-returns-4
+unfolding cellSet
+returns-4 c = rw (c .before .set-fact .ensures, c .before .before .before .cell4 .given .1)
+
+returns-5 : tie.Need-returns-5
+unfolding cellSet
+returns-5 c = rw (c .before .set-fact2 .ensures, c .before .before .before .cell5 .given .1)
+
+pub set-cell-spec : {M : Type 1} → statement M
+set-cell-spec =
+    tie.close
+    (tie.spec
+    enum-known-cell
+    set-of-kind-requires
+    enum-known-cell-2
+    set-of-kind-requires-2
+    enum-known-cell-3
+    set-of-kind-requires-3
+    enum-known-cell-4
+    set-fact-requires
+    enum-known-cell-5
+    set-fact-requires-2
+    returns
+    returns-2
+    returns-3
+    returns-4
+    returns-5)

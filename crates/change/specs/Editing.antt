@@ -1,0 +1,64 @@
+-- Editing one cell: document 01, "The session table": "An edit names a kind of cell with its action and fact, or a start
+-- or goal fact, and sets it to present or absent."
+use mathlib.Core.Bool.{Bool, cond, _&&_}
+use mathlib.Core.List.{List}
+use Prim.Native.Nat.{ℕ}
+use lib.Dec.{ltb}
+use lib.ListN.{getD, set}
+use Rattle.facts.specs.Sets.{joined, removed, only}
+use Rattle.table.specs.declared.Task.{Task}
+use Rattle.table.specs.declared.Table.{Table}
+use Rattle.table.specs.declared.Run.{Run}
+use Rattle.change.specs.declared.Cell.{Cell}
+use Rattle.change.specs.declared.Cell.the-variants.{Need, Add, Delete, Start, Goal}
+use Rattle.change.specs.declared.Edit.{Edit}
+
+-- The set with fact f set to present or absent.
+unfoldable pub setFact : ℕ → ℕ → Bool → ℕ
+setFact m f present = cond present (joined m (only f)) (removed m (only f))
+
+-- The same in the set of action a of a row of sets.
+abbrev pub setCell : List ℕ → ℕ → ℕ → Bool → List ℕ
+setCell sets a f present = set sets a (setFact (getD sets a 0) f present)
+
+abbrev pub withNeeds : Table → List ℕ → Table
+withNeeds t sets = record { facts = t .facts; actions = t .actions; limit = t .limit; needs = sets; adds = t .adds; deletes = t .deletes }
+
+abbrev pub withAdds : Table → List ℕ → Table
+withAdds t sets = record { facts = t .facts; actions = t .actions; limit = t .limit; needs = t .needs; adds = sets; deletes = t .deletes }
+
+abbrev pub withDeletes : Table → List ℕ → Table
+withDeletes t sets = record { facts = t .facts; actions = t .actions; limit = t .limit; needs = t .needs; adds = t .adds; deletes = sets }
+
+abbrev pub withStart : Run → ℕ → Run
+withStart r m = record { start = m; goal = r .goal; count = r .count; steps = r .steps }
+
+abbrev pub withGoal : Run → ℕ → Run
+withGoal r m = record { start = r .start; goal = m; count = r .count; steps = r .steps }
+
+-- The task with the cell set.
+unfoldable pub cellSet : Task → Cell → Bool → Task
+cellSet t (Need a f) p = record { table = withNeeds (t .table) (setCell (t .table .needs) a f p); run = t .run }
+cellSet t (Add a f) p = record { table = withAdds (t .table) (setCell (t .table .adds) a f p); run = t .run }
+cellSet t (Delete a f) p = record { table = withDeletes (t .table) (setCell (t .table .deletes) a f p); run = t .run }
+cellSet t (Start f) p = record { table = t .table; run = withStart (t .run) (setFact (t .run .start) f p) }
+cellSet t (Goal f) p = record { table = t .table; run = withGoal (t .run) (setFact (t .run .goal) f p) }
+
+abbrev pub edited : Task → Edit → Task
+edited t e = cellSet t (e .cell) (e .present)
+
+-- The fact that a cell concerns, and so the row that an edit writes afresh.
+unfoldable pub cellFact : Cell → ℕ
+cellFact (Need a f) = f
+cellFact (Add a f) = f
+cellFact (Delete a f) = f
+cellFact (Start f) = f
+cellFact (Goal f) = f
+
+-- 14 is given if not: the fact, and the action of a need, an add or a delete, are in the task.
+unfoldable pub cellInside : Task → Cell → Bool
+cellInside t (Need a f) = ltb a (t .table .actions) && ltb f (t .table .facts)
+cellInside t (Add a f) = ltb a (t .table .actions) && ltb f (t .table .facts)
+cellInside t (Delete a f) = ltb a (t .table .actions) && ltb f (t .table .facts)
+cellInside t (Start f) = ltb f (t .table .facts)
+cellInside t (Goal f) = ltb f (t .table .facts)
