@@ -1,0 +1,197 @@
+-- The file of a well-formed task is accepted, and that task is read. Assumes nothing.
+use mathlib.Core.Bool.{Bool, true, false}
+use mathlib.Core.List.{List, [], _∷_, _++_, append-assoc, append-nil}
+use mathlib.Core.Path.{_≡_, refl, sym, ap, _∙_, subst, subst₂}
+use Prim.Native.Nat.{ℕ, zero, suc, _+_, _-_, _*_, _<_, _≤_}
+use native.Mathlib.Omega.{arith}
+use lib.Dec.{eqb}
+use lib.ListN.{length, getD, length-append}
+use lib.Seq.{getD-append-add}
+use borrow.Author.Tests.{eqb-true, eqb-false, ne-eqb}
+use Rattle.table.specs.Lists.{gather}
+use Rattle.table.specs.Tasks.{WellFormed}
+use Rattle.table.specs.declared.Task.{Task}
+use Rattle.taskfile.specs.Format.{sizesKind, endKind, isCellKind, bodyLength, fileOf}
+use Rattle.taskfile.specs.Reading.{Seen, nothingSeen, kindAt, byteAt, bodyAt, nextAt, seenAfter, tableAfter, acceptedRead, Reads, ReadsFile, good, ended}
+use Rattle.taskfile.proofs.Clear.{faultless}
+use Rattle.table.proofs.GatherLaws.{gather-more, gather-next}
+use Rattle.taskfile.proofs.Ranks.{slots, rank, pieceAt, file-by-rank, no-piece, first-piece, none-before, sizes-first}
+use Rattle.taskfile.proofs.Fitting.{Told, told, slotOf, record-length}
+use Rattle.taskfile.proofs.OneMore.{taskAfter}
+use Rattle.taskfile.proofs.RecordsAfter.{piece-after}
+use Rattle.table.proofs.Bools.{by-order}
+use Rattle.taskfile.proofs.Standing.{Standing, good-next}
+use Rattle.taskfile.proofs.FirstRecord.{bareTask, bareSeen, seen-first, stands-first}
+use Rattle.taskfile.proofs.GoodRecord.{clear-later, clear-end, clear-first}
+use Rattle.taskfile.proofs.NextRecord.{Agrees, Here, Look, absent, short, long, look}
+use Rattle.taskfile.proofs.SameTask.{same-task}
+
+-- After the first record.
+agrees-first : (t : Task) (b : ℕ) → Agrees t (bareSeen (t .table .facts) (t .table .actions) (t .table .limit) b) (suc (rank sizesKind 0))
+unfolding bareTask taskAfter tableAfter
+agrees-first t b = record {
+  sizes = record { facts = refl; actions = refl; limit = refl };
+  pieces = λ q l.
+      by-order q slots (λ low. no-piece bare q low ∙ sym (no-piece t q low))
+      (λ high. let is : q ≡ rank sizesKind 0 = omega arith in rw is (first-piece bare ∙ sym (first-piece t)));
+}
+  where
+    bare : Task
+    bare = bareTask (t .table .facts) (t .table .actions) (t .table .limit)
+
+-- ---- the bytes of a file around a rank
+
+-- A byte of the file after the bytes before a rank.
+byte-of : (s before after : List ℕ) (m n : ℕ) → s ≡ before ++ after → m ≡ length before + n → getD s m 0 ≡ getD after n 0
+byte-of s before after m n e d = rw (e, d) (getD-append-add before after n 0)
+
+-- The bytes after the record of a rank.
+rest-of : Task → ℕ → List ℕ
+rest-of t r = gather (λ i. pieceAt t (suc r + i)) (endKind * slots - suc r) ++ endKind ∷ []
+
+file-split : (t : Task) (s : List ℕ) → s ≡ gather (pieceAt t) (endKind * slots) ++ endKind ∷ [] → (r : ℕ) → r < endKind * slots
+    → s ≡ gather (pieceAt t) r ++ (pieceAt t r ++ rest-of t r)
+unfolding rest-of
+file-split t s e r l =
+    let all : endKind * slots ≡ suc r + (endKind * slots - suc r) = omega arith in
+    e
+    ∙ ap (λ (n : ℕ). gather (pieceAt t) n ++ endKind ∷ []) all
+    ∙ rw (gather-more (pieceAt t) (suc r) (endKind * slots - suc r), gather-next (pieceAt t) r) (simp append-assoc)
+
+-- ---- reading on from a rank
+
+module _ (t : Task) (formed : WellFormed t) (s : List ℕ) (whole : s ≡ gather (pieceAt t) (endKind * slots) ++ endKind ∷ []) where
+  -- Where the record of a rank stands in the file, if the task has it; and what is to be shown of that rank: from every state
+  -- that holds the task's records below it, reading on accepts the task.
+  abbrev placeOf : ℕ → ℕ
+  placeOf r = length (gather (pieceAt t) r)
+
+  abbrev From : ℕ → Type 0
+  From r = (seen : Seen) (slot : ℕ) → Standing seen slot → rank (seen .kind) slot < r → Agrees t seen r
+      → Reads s (acceptedRead t) (placeOf r) seen
+
+  agrees-absent : (seen : Seen) (slot r : ℕ) → Standing seen slot → rank (seen .kind) slot < r → Agrees t seen r → pieceAt t r ≡ []
+      → Agrees t seen (suc r)
+  agrees-absent seen slot r stands later agrees none = record { sizes = agrees .sizes; pieces = λ q l. by q (eqb q r) refl l }
+    where
+      by : (q : ℕ) (b : Bool) → eqb q r ≡ b → q < suc r → pieceAt (seen .task) q ≡ pieceAt t q
+      by q true e l = let is = eqb-true q r e in rw is (stands .above r later ∙ sym none)
+      by q false e l = let other = eqb-false q r e in agrees .pieces q (omega arith)
+
+  module _ (seen : Seen) (slot r : ℕ) (stands : Standing seen slot) (later : rank (seen .kind) slot < r) (agrees : Agrees t seen r)
+      (here : Here t seen r (kindAt s (placeOf r)) (byteAt s (placeOf r) 0) (byteAt s (placeOf r) 1)) where
+    agrees-after : Told (seen .task) (kindAt s (placeOf r)) (byteAt s (placeOf r) 0) (byteAt s (placeOf r) 1)
+        → Agrees t (seenAfter s (placeOf r) seen) (suc r)
+    unfolding seenAfter tableAfter taskAfter
+    agrees-after tells =
+        let other : eqb (kindAt s (placeOf r)) sizesKind ≡ false = ne-eqb (kindAt s (placeOf r)) sizesKind (omega arith) in
+        record {
+          sizes = record {
+            facts = rw other (agrees .sizes .facts);
+            actions = rw other (agrees .sizes .actions);
+            limit = rw other (agrees .sizes .limit);
+          };
+          pieces = λ q l. pieces-after q (eqb q r) refl l;
+        }
+      where
+        k : ℕ
+        k = kindAt s (placeOf r)
+
+        x : ℕ
+        x = byteAt s (placeOf r) 0
+
+        y : ℕ
+        y = byteAt s (placeOf r) 1
+
+        pieces-after : (q : ℕ) (b : Bool) → eqb q r ≡ b → q < suc r
+            → pieceAt (taskAfter (seen .task) k x y (byteAt s (placeOf r) 2)) q ≡ pieceAt t q
+        pieces-after q true e l =
+            piece-after (seen .task) k x y (byteAt s (placeOf r) 2) (stands .formed) tells q
+            ∙ rw (here .place, e) (here .bytes ∙ ap (pieceAt t) (sym (eqb-true q r e)))
+        pieces-after q false e l =
+            let far = eqb-false q r e in
+            piece-after (seen .task) k x y (byteAt s (placeOf r) 2) (stands .formed) tells q
+            ∙ rw (here .place, e) (agrees .pieces q (omega arith))
+
+    read-here : r < endKind * slots → From (suc r) → Reads s (acceptedRead t) (placeOf r) seen
+    unfolding seenAfter
+    read-here l more =
+        let at = placeOf r in
+        let k = kindAt s at in
+        let x = byteAt s at 0 in
+        let y = byteAt s at 1 in
+        let long-as = ap length (here .bytes) in
+        let bytes = record-length (seen .task) k x y (here .fit) in
+        let parts = ap length (file-split t s whole r l) ∙ length-append (gather (pieceAt t) r) (pieceAt t r ++ rest-of t r) in
+        let piece-part = length-append (pieceAt t r) (rest-of t r) in
+        let place = here .place in
+        let clear = clear-later s at seen slot stands (here .fit) (omega arith) (omega arith) in
+        let tells = told (seen .task) k x y (stands .formed) (here .fit) in
+        let not-end : k ≡ endKind → ⊥ = λ is. let last = tells .last in omega arith in
+        let next = good-next s at seen slot stands clear not-end in
+        let sum = ap length (gather-next (pieceAt t) r) ∙ length-append (gather (pieceAt t) r) (pieceAt t r) in
+        let next-place : placeOf (suc r) ≡ nextAt s at = omega arith in
+        good {at = at} {seen = seen} (faultless s at seen clear) not-end
+        (subst (λ (m : ℕ). Reads s (acceptedRead t) m (seenAfter s at seen)) next-place
+        (more (seenAfter s at seen) (slotOf (seen .task) k x y) (next .stands) (omega arith) (agrees-after tells)))
+
+  step : (r : ℕ) → r < endKind * slots → From (suc r) → From r
+  step r l more seen slot stands later agrees = by (look t formed seen slot r stands later agrees)
+    where
+      by : Look t seen r → Reads s (acceptedRead t) (placeOf r) seen
+      by (absent none) =
+          let nothing-more : gather (pieceAt t) (suc r) ≡ gather (pieceAt t) r =
+          gather-next (pieceAt t) r ∙ rw none (append-nil (gather (pieceAt t) r)) in
+          let same : placeOf (suc r) ≡ placeOf r = ap length nothing-more in
+          subst (λ (m : ℕ). Reads s (acceptedRead t) m seen) same
+          (more seen slot stands (omega arith) (agrees-absent seen slot r stands later agrees none))
+      by (short k x is here) =
+          let split : s ≡ gather (pieceAt t) r ++ k ∷ x ∷ rest-of t r = rw is at (file-split t s whole r l) in
+          let kind = byte-of s (gather (pieceAt t) r) (k ∷ x ∷ rest-of t r) (placeOf r) 0 split (omega arith) in
+          let first = byte-of s (gather (pieceAt t) r) (k ∷ x ∷ rest-of t r) (placeOf r + 1 + 0) 1 split (omega arith) in
+          read-here seen slot r stands later agrees (rw (kind, first) (here (byteAt s (placeOf r) 1))) l more
+      by (long k x y is here) =
+          let split : s ≡ gather (pieceAt t) r ++ k ∷ x ∷ y ∷ rest-of t r = rw is at (file-split t s whole r l) in
+          let kind = byte-of s (gather (pieceAt t) r) (k ∷ x ∷ y ∷ rest-of t r) (placeOf r) 0 split (omega arith) in
+          let first = byte-of s (gather (pieceAt t) r) (k ∷ x ∷ y ∷ rest-of t r) (placeOf r + 1 + 0) 1 split (omega arith) in
+          let second = byte-of s (gather (pieceAt t) r) (k ∷ x ∷ y ∷ rest-of t r) (placeOf r + 1 + 1) 2 split (omega arith) in
+          read-here seen slot r stands later agrees (rw (kind, first, second) here) l more
+
+  at-end : (r : ℕ) → r ≡ endKind * slots → From r
+  at-end r all seen slot stands later agrees =
+      let same = same-task (seen .task) t (stands .formed) formed (agrees .sizes) (λ q l. agrees .pieces q (omega arith)) in
+      let split : s ≡ gather (pieceAt t) r ++ endKind ∷ [] = rw all whole in
+      let is = byte-of s (gather (pieceAt t) r) (endKind ∷ []) (placeOf r) 0 split (omega arith) in
+      let last = ap length split ∙ length-append (gather (pieceAt t) r) (endKind ∷ []) in
+      ended {at = placeOf r} {seen = seen} (faultless s (placeOf r) seen (clear-end s (placeOf r) seen slot stands is (omega arith))) is (omega arith)
+      (ap acceptedRead (sym same))
+
+  from-rank : (n r : ℕ) → r + n ≡ endKind * slots → From r
+  from-rank zero r e = at-end r (omega arith)
+  from-rank (suc n) r e = step r (omega arith) (from-rank n (suc r) (omega arith))
+
+  -- ---- the first record
+
+  sizes-at : s ≡ sizesKind ∷ t .table .facts ∷ t .table .actions ∷ t .table .limit ∷ rest-of t (rank sizesKind 0)
+  sizes-at = rw (none-before t, first-piece t) at (file-split t s whole (rank sizesKind 0) (omega arith))
+
+  from-start : ReadsFile s (acceptedRead t)
+  unfolding bodyLength isCellKind
+  from-start =
+      let is : kindAt s 0 ≡ sizesKind = ap (λ (b : List ℕ). getD b 0 0) sizes-at in
+      let x : byteAt s 0 0 ≡ t .table .facts = ap (λ (b : List ℕ). getD b 1 0) sizes-at in
+      let y : byteAt s 0 1 ≡ t .table .actions = ap (λ (b : List ℕ). getD b 2 0) sizes-at in
+      let z : byteAt s 0 2 ≡ t .table .limit = ap (λ (b : List ℕ). getD b 3 0) sizes-at in
+      let four : 4 ≤ length s = rw sizes-at (omega arith) in
+      let first = bareSeen (t .table .facts) (t .table .actions) (t .table .limit) (bodyAt s 0) in
+      let sees : seenAfter s 0 nothingSeen ≡ first = rw (← x, ← y, ← z) (seen-first s is) in
+      let clear = clear-first t formed s is x y z four in
+      let next : placeOf (suc (rank sizesKind 0)) ≡ nextAt s 0 = rw is (ap length (sizes-first t)) in
+      let rest = from-rank (endKind * slots - suc (rank sizesKind 0)) (suc (rank sizesKind 0)) (omega arith) in
+      good {at = 0} {seen = nothingSeen} (faultless s 0 nothingSeen clear) (λ e. omega arith)
+      (subst₂ (Reads s (acceptedRead t)) next (sym sees)
+      (rest first 0 (subst (λ (seen : Seen). Standing seen 0) sees (stands-first s clear)) (omega arith) (agrees-first t (bodyAt s 0))))
+
+-- The file of a well-formed task is accepted, and that task is read: demand 2's first sentence, the other way.
+pub file-accepted : (t : Task) → WellFormed t → ReadsFile (fileOf t) (acceptedRead t)
+file-accepted t formed = from-start t formed (fileOf t) (file-by-rank t formed)

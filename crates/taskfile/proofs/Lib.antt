@@ -1,0 +1,22 @@
+-- What other crates cite of `taskfile`: the theorems about the task file.
+pub mod RecordLaws
+pub mod ReaderLaws
+pub mod Unique
+pub mod Function
+pub mod Clear
+pub mod BenchRows
+pub mod Ranks
+pub mod Families
+pub mod Fitting
+pub mod OneMore
+pub mod RecordsAfter
+pub mod Standing
+pub mod FirstRecord
+pub mod ReadsFile
+pub mod SameTask
+pub mod GoodRecord
+pub mod NextRecord
+pub mod FileReads
+pub mod FileLength
+pub mod Cut
+pub mod Files

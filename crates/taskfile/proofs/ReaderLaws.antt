@@ -1,0 +1,62 @@
+-- Laws of an ordered list of checks, and what the loop of the reader keeps. Assumes nothing.
+use mathlib.Core.Bool.{Bool, true, false, cond, _&&_}
+use mathlib.Core.List.{List, [], _∷_}
+use mathlib.Core.Path.{_≡_, refl}
+use Prim.Native.Nat.{ℕ, _<_}
+use borrow.Author.Tests.{eq-eqb, leb-false}
+use native.Mathlib.Omega.{arith}
+use lib.Dec.{eqb, leb}
+use lib.ListN.{drop}
+use Rattle.table.specs.Refusals.{Check, Refusal, firstOf, sizeOutside, numberOutside, notAscending, tooManySteps}
+use Rattle.table.specs.Sizes.{maxSteps}
+use Rattle.taskfile.specs.Format.{sizesKind, stepKind}
+use Rattle.taskfile.specs.Reading.{Seen, kindAt, byteAt, bodyAt, sizesWrong, outside, disordered, faultsAt, faultAt}
+use Rattle.taskfile.specs.Records.{bodyFaults}
+use Rattle.taskfile.proofs.Clear.{Clear}
+
+-- The first n checks do not fire.
+abbrev pub Past : List Check → ℕ → Type 0
+Past cs n = firstOf cs ≡ firstOf (drop n cs)
+
+-- All checks of the list are at one place.
+abbrev AllAt : ℕ → List Check → Type 0
+AllAt p [] = Unit {0}
+AllAt p (c ∷ cs) = (c .place ≡ p) × AllAt p cs
+
+placed : (b : Bool) (n q p : ℕ) (rest : Refusal) → q ≡ p → (0 < rest .number → rest .place ≡ p)
+    → 0 < cond {A = Refusal} b (record { number = n; place = q }) rest .number → cond {A = Refusal} b (record { number = n; place = q }) rest .place ≡ p
+placed true n q p rest e more h = e
+placed false n q p rest e more h = more h
+
+first-placed : (p : ℕ) (cs : List Check) → AllAt p cs → 0 < firstOf cs .number → firstOf cs .place ≡ p
+unfolding firstOf
+first-placed p [] a h = absurd (omega arith)
+first-placed p (c ∷ cs) a h = placed (c .fires) (c .number) (c .place) p (firstOf cs) (a .0) (first-placed p cs (a .1)) h
+
+-- A fault is at its record's start.
+pub fault-place : (s : List ℕ) (at : ℕ) (seen : Seen) → 0 < faultAt s at seen .number → faultAt s at seen .place ≡ at
+unfolding faultsAt
+fault-place s at seen h = first-placed at (faultsAt s at seen) (refl, (refl, (refl, (refl, (refl, (refl, (refl, (refl, tt)))))))) h
+
+-- A good step record comes while there is room for it.
+pub has-room : {s : List ℕ} {at : ℕ} {seen : Seen} → Clear s at seen → kindAt s at ≡ stepKind → seen .task .run .count < maxSteps
+has-room {s} {at} {seen} c e =
+    leb-false maxSteps (seen .task .run .count) (rw (eq-eqb (kindAt s at) stepKind e) at (c .room))
+
+-- The checks of a body over the values that the code tests.
+abbrev pub bodyTests : ℕ → ℕ → ℕ → Bool → Bool → Bool → List Check
+bodyTests at kind count wrong beyond down =
+    test (eqb kind sizesKind && wrong) sizeOutside ∷
+    test beyond numberOutside ∷
+    test down notAscending ∷
+    test (eqb kind stepKind && leb maxSteps count) tooManySteps ∷ []
+  where
+    test : Bool → ℕ → Check
+    test b n = record { fires = b; number = n; place = at }
+
+pub body-tested : (s : List ℕ) (at : ℕ) (seen : Seen) {kind x y z body : ℕ} {wrong beyond down : Bool}
+    → kind ≡ kindAt s at → x ≡ byteAt s at 0 → y ≡ byteAt s at 1 → z ≡ byteAt s at 2 → body ≡ bodyAt s at
+    → wrong ≡ sizesWrong x y z → beyond ≡ outside (seen .task .table) kind x y → down ≡ disordered seen kind body
+    → firstOf (bodyFaults s at seen) ≡ firstOf (bodyTests at kind (seen .task .run .count) wrong beyond down)
+unfolding bodyFaults faultsAt
+body-tested s at seen k a b c d w o n = rw (n, o, w, d, c, b, a, k)

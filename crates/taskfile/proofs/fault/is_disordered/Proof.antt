@@ -1,0 +1,18 @@
+-- `taskfile::fault::is_disordered` meets its contract. Assumes nothing.
+use borrow.Author.Needs.{needs}
+use Rattle.taskfile.specs.Reading.{disordered}
+use Rattle.taskfile.proofs.fault.is_disordered.Statement.{statement}
+use Rattle.taskfile.proofs.fault.is_disordered.Tie as tie
+
+is-fact-kind-requires : tie.Need-is-fact-kind-requires
+is-fact-kind-requires c κs = search needs
+
+is-cell-kind-requires : tie.Need-is-cell-kind-requires
+is-cell-kind-requires c κs = search needs
+
+returns : tie.Need-returns
+unfolding disordered
+returns c = rw (c .before .before .is-fact-kind .ensures, c .before .is-cell-kind .ensures)
+
+pub is-disordered-spec : {M : Type 1} → statement M
+is-disordered-spec = tie.close (tie.spec is-fact-kind-requires is-cell-kind-requires returns)

@@ -1,0 +1,19 @@
+-- `taskfile::fault::is_outside` meets its contract. Assumes nothing.
+use borrow.Author.Needs.{needs}
+use Rattle.taskfile.specs.Reading.{outside}
+use Rattle.taskfile.proofs.fault.is_outside.Statement.{statement}
+use Rattle.taskfile.proofs.fault.is_outside.Tie as tie
+
+is-fact-kind-requires : tie.Need-is-fact-kind-requires
+is-fact-kind-requires c κs = search needs
+
+is-cell-kind-requires : tie.Need-is-cell-kind-requires
+is-cell-kind-requires c κs = search needs
+
+returns : tie.Need-returns
+unfolding outside
+returns c =
+    rw (c .before .before .before .before .before .is-fact-kind .ensures, c .before .before .before .is-cell-kind .ensures)
+
+pub is-outside-spec : {M : Type 1} → statement M
+is-outside-spec = tie.close (tie.spec is-fact-kind-requires is-cell-kind-requires returns)

@@ -1,0 +1,12 @@
+-- `taskfile::kinds::is_cell_kind` meets its contract. Assumes nothing.
+use borrow.Author.Needs.{needs}
+use Rattle.taskfile.specs.Format.{isCellKind}
+use Rattle.taskfile.proofs.kinds.is_cell_kind.Statement.{statement}
+use Rattle.taskfile.proofs.kinds.is_cell_kind.Tie as tie
+
+returns : tie.Need-returns
+unfolding isCellKind
+returns c = search needs
+
+pub is-cell-kind-spec : {M : Type 1} → statement M
+is-cell-kind-spec = tie.close (tie.spec returns)

@@ -1,0 +1,75 @@
+-- The file of a task, as a plain function from tasks to bytes: document 01, "The task file".
+use mathlib.Core.Bool.{Bool, cond, _||_, _&&_}
+use mathlib.Core.List.{List, [], _∷_, _++_}
+use Prim.Native.Nat.{ℕ}
+use lib.Dec.{eqb, leb}
+use lib.ListN.{getD}
+use Rattle.facts.specs.Sets.{has}
+use Rattle.table.specs.Lists.{gather, piece}
+use Rattle.table.specs.declared.Task.{Task}
+use Rattle.table.specs.declared.Table.{Table}
+use Rattle.table.specs.declared.Run.{Run}
+
+-- The kinds of record, and the bytes of each kind's body:
+-- 1 F, A, L; 2 start fact; 3 goal fact; 4, 5, 6 need, add, delete with action and fact; 7 next step; 8 end.
+abbrev pub sizesKind : ℕ
+sizesKind = 1
+
+abbrev pub startKind : ℕ
+startKind = 2
+
+abbrev pub goalKind : ℕ
+goalKind = 3
+
+abbrev pub needKind : ℕ
+needKind = 4
+
+abbrev pub addKind : ℕ
+addKind = 5
+
+abbrev pub deleteKind : ℕ
+deleteKind = 6
+
+abbrev pub stepKind : ℕ
+stepKind = 7
+
+abbrev pub endKind : ℕ
+endKind = 8
+
+unfoldable pub isKind : ℕ → Bool
+isKind k = leb sizesKind k && leb k endKind
+
+-- Need, add or delete: a cell of the table, with an action and a fact.
+unfoldable pub isCellKind : ℕ → Bool
+isCellKind k = leb needKind k && leb k deleteKind
+
+-- Start or goal: a fact alone.
+unfoldable pub isFactKind : ℕ → Bool
+isFactKind k = eqb k startKind || eqb k goalKind
+
+unfoldable pub bodyLength : ℕ → ℕ
+bodyLength k = cond (eqb k sizesKind) 3 (cond (isCellKind k) 2 (cond (eqb k endKind) 0 1))
+
+-- One record for each fact below F that is in the set, ascending.
+unfoldable pub factRecords : ℕ → ℕ → ℕ → List ℕ
+factRecords kind facts set = gather (λ f. piece (has set f) (kind ∷ f ∷ [])) facts
+
+-- One record for each cell that is set, "strictly ascending, first number first": by action, then by fact.
+unfoldable pub cellRecords : ℕ → ℕ → ℕ → List ℕ → List ℕ
+cellRecords kind facts actions sets =
+    gather (λ a. gather (λ f. piece (has (getD sets a 0) f) (kind ∷ a ∷ f ∷ [])) facts) actions
+
+unfoldable pub stepRecords : Run → List ℕ
+stepRecords r = gather (λ i. stepKind ∷ getD (r .steps) i 0 ∷ []) (r .count)
+
+-- "Kinds never go down", and the end is the last byte.
+unfoldable pub fileOf : Task → List ℕ
+fileOf t =
+    (sizesKind ∷ t .table .facts ∷ t .table .actions ∷ t .table .limit ∷ []) ++
+    factRecords startKind (t .table .facts) (t .run .start) ++
+    factRecords goalKind (t .table .facts) (t .run .goal) ++
+    cellRecords needKind (t .table .facts) (t .table .actions) (t .table .needs) ++
+    cellRecords addKind (t .table .facts) (t .table .actions) (t .table .adds) ++
+    cellRecords deleteKind (t .table .facts) (t .table .actions) (t .table .deletes) ++
+    stepRecords (t .run) ++
+    (endKind ∷ [])

@@ -1,0 +1,148 @@
+-- What reading a file gives, for every byte string: document 01, "The task file" and "Refusal numbers".
+-- "Order in a file: the first faulty record; within it 1 (no kind byte), 2, 3, 1 (short body), 4, 5, 6, 7; 8 after a good end."
+use mathlib.Core.Bool.{Bool, cond, not, _||_, _&&_}
+use mathlib.Core.List.{List, [], _∷_}
+use mathlib.Core.Path.{_≡_}
+use Prim.Native.Nat.{ℕ, _+_, _*_, _<_}
+use lib.Dec.{eqb, leb, ltb}
+use lib.ListN.{length, getD, set, replicate}
+use Rattle.facts.specs.Sets.{joined, only}
+use Rattle.table.specs.Refusals.{Check, Refusal, firstOf, accepted, noEnd, unknownKind, sizesMisplaced, sizeOutside, numberOutside, notAscending, tooManySteps, bytesAfterEnd}
+use Rattle.table.specs.Sizes.{maxFacts, maxActions, maxSteps, maxLimit}
+use Rattle.table.specs.declared.Task.{Task}
+use Rattle.table.specs.declared.Table.{Table}
+use Rattle.table.specs.declared.Run.{Run}
+use Rattle.taskfile.specs.declared.TaskRead.{TaskRead}
+use Rattle.taskfile.specs.Format.{sizesKind, startKind, goalKind, needKind, addKind, deleteKind, stepKind, endKind, isKind, isCellKind, isFactKind, bodyLength}
+
+-- A task of zeros: what a refused read returns.
+abbrev pub noTask : Task
+noTask = record {
+  table = record { facts = 0; actions = 0; limit = 0; needs = replicate maxActions 0; adds = replicate maxActions 0; deletes = replicate maxActions 0 };
+  run = record { start = 0; goal = 0; count = 0; steps = replicate maxSteps 0 };
+}
+
+-- What the records so far have said: the task, and the last record's kind and body (kind 0: no record yet).
+pub record Seen : Type 0 where
+  pub task : Task
+  pub kind : ℕ
+  pub body : ℕ
+
+abbrev pub nothingSeen : Seen
+nothingSeen = record { task = noTask; kind = 0; body = 0 }
+
+-- The record at a place of the file: its kind and the bytes of its body.
+abbrev pub kindAt : List ℕ → ℕ → ℕ
+kindAt s at = getD s at 0
+
+abbrev pub byteAt : List ℕ → ℕ → ℕ → ℕ
+byteAt s at i = getD s (at + 1 + i) 0
+
+-- A body of one or two bytes as one number, first number first.
+unfoldable pub bodyAt : List ℕ → ℕ → ℕ
+bodyAt s at = cond (isCellKind (kindAt s at)) (256 * byteAt s at 0 + byteAt s at 1) (byteAt s at 0)
+
+-- 3: "first kind isn't 1, or 1 comes again"
+unfoldable pub misplaced : Seen → ℕ → Bool
+misplaced seen kind = cond (eqb (seen .kind) 0) (not (eqb kind sizesKind)) (eqb kind sizesKind)
+
+-- 4: "a size is out of range"
+unfoldable pub sizesWrong : ℕ → ℕ → ℕ → Bool
+sizesWrong f a l = not (ltb 0 f && leb f maxFacts && (ltb 0 a && leb a maxActions) && leb l maxLimit)
+
+-- 5: "fact or action outside"
+unfoldable pub outside : Table → ℕ → ℕ → ℕ → Bool
+outside t kind x y =
+    (isFactKind kind && leb (t .facts) x) ||
+    (isCellKind kind && (leb (t .actions) x || leb (t .facts) y)) ||
+    (eqb kind stepKind && leb (t .actions) x)
+
+-- 6: "kind goes down, or body doesn't ascend" (within each of kinds 2 to 6)
+unfoldable pub disordered : Seen → ℕ → ℕ → Bool
+disordered seen kind body =
+    ltb kind (seen .kind) || (eqb kind (seen .kind) && (isFactKind kind || isCellKind kind) && leb body (seen .body))
+
+-- The faults of the record at a place, in 01's order.
+unfoldable pub faultsAt : List ℕ → ℕ → Seen → List Check
+faultsAt s at seen =
+    fault (leb (length s) at) noEnd ∷
+    fault (not (isKind kind)) unknownKind ∷
+    fault (misplaced seen kind) sizesMisplaced ∷
+    fault (ltb (length s) (at + 1 + bodyLength kind)) noEnd ∷
+    fault (eqb kind sizesKind && sizesWrong (byteAt s at 0) (byteAt s at 1) (byteAt s at 2)) sizeOutside ∷
+    fault (outside (seen .task .table) kind (byteAt s at 0) (byteAt s at 1)) numberOutside ∷
+    fault (disordered seen kind (bodyAt s at)) notAscending ∷
+    fault (eqb kind stepKind && leb maxSteps (seen .task .run .count)) tooManySteps ∷ []
+  where
+    kind : ℕ
+    kind = kindAt s at
+
+    fault : Bool → ℕ → Check
+    fault b n = record { fires = b; number = n; place = at }
+
+-- One set of a row of sets, with one fact more.
+abbrev pub withCell : List ℕ → ℕ → ℕ → List ℕ
+withCell sets a f = set sets a (joined (getD sets a 0) (only f))
+
+-- The task with one record more, of this kind and these bytes.
+unfoldable pub tableAfter : Table → ℕ → ℕ → ℕ → ℕ → Table
+tableAfter t kind x y z = record {
+  facts = cond (eqb kind sizesKind) x (t .facts);
+  actions = cond (eqb kind sizesKind) y (t .actions);
+  limit = cond (eqb kind sizesKind) z (t .limit);
+  needs = cond (eqb kind needKind) (withCell (t .needs) x y) (t .needs);
+  adds = cond (eqb kind addKind) (withCell (t .adds) x y) (t .adds);
+  deletes = cond (eqb kind deleteKind) (withCell (t .deletes) x y) (t .deletes);
+}
+
+unfoldable pub runAfter : Run → ℕ → ℕ → Run
+runAfter r kind x = record {
+  start = cond (eqb kind startKind) (joined (r .start) (only x)) (r .start);
+  goal = cond (eqb kind goalKind) (joined (r .goal) (only x)) (r .goal);
+  count = cond (eqb kind stepKind) (r .count + 1) (r .count);
+  steps = cond (eqb kind stepKind) (set (r .steps) (r .count) x) (r .steps);
+}
+
+-- What is seen after the record at a place, and the next place.
+unfoldable pub seenAfter : List ℕ → ℕ → Seen → Seen
+seenAfter s at seen = record {
+  task = record {
+    table = tableAfter (seen .task .table) (kindAt s at) (byteAt s at 0) (byteAt s at 1) (byteAt s at 2);
+    run = runAfter (seen .task .run) (kindAt s at) (byteAt s at 0);
+  };
+  kind = kindAt s at;
+  body = bodyAt s at;
+}
+
+abbrev pub nextAt : List ℕ → ℕ → ℕ
+nextAt s at = at + 1 + bodyLength (kindAt s at)
+
+-- "Beside its number and place .. any other refused call returns zeros (a read: a task of zeros)."
+abbrev pub refusedRead : ℕ → ℕ → TaskRead
+refusedRead n p = record { number = n; place = p; task = noTask }
+
+abbrev pub acceptedRead : Task → TaskRead
+acceptedRead t = record { number = accepted; place = 0; task = t }
+
+-- The number and place of the first fault of the record at a place; none where it is good.
+abbrev pub faultAt : List ℕ → ℕ → Seen → Refusal
+faultAt s at seen = firstOf (faultsAt s at seen)
+
+-- r is what reading s gives from a place on, where the records before it have been seen.
+pub data Reads (s : List ℕ) (r : TaskRead) : ℕ → Seen → Type 0 where
+  -- the first faulty record
+  faulty : {at : ℕ} {seen : Seen} → 0 < faultAt s at seen .number
+      → r ≡ refusedRead (faultAt s at seen .number) (faultAt s at seen .place) → Reads s r at seen
+  -- a good record that is not the end: the rest decides
+  good : {at : ℕ} {seen : Seen} → faultAt s at seen .number ≡ 0 → (kindAt s at ≡ endKind → ⊥)
+      → Reads s r (nextAt s at) (seenAfter s at seen) → Reads s r at seen
+  -- a good end that is the last byte
+  ended : {at : ℕ} {seen : Seen} → faultAt s at seen .number ≡ 0 → kindAt s at ≡ endKind → at + 1 ≡ length s
+      → r ≡ acceptedRead (seen .task) → Reads s r at seen
+  -- 8: "bytes after the end", at the first such byte
+  trailing : {at : ℕ} {seen : Seen} → faultAt s at seen .number ≡ 0 → kindAt s at ≡ endKind → at + 1 < length s
+      → r ≡ refusedRead bytesAfterEnd (at + 1) → Reads s r at seen
+
+-- Reading a whole file.
+abbrev pub ReadsFile : List ℕ → TaskRead → Type 0
+ReadsFile s r = Reads s r 0 nothingSeen

@@ -1,0 +1,101 @@
+// The first fault of the record at a place (document 01, "Refusal numbers": "within it 1 (no kind byte), 2, 3, 1 (short
+// body), 4, 5, 6, 7").
+use crate::kinds;
+use crate::parts;
+use crate::seen::Seen;
+use table::ACTIONS;
+use table::FACTS;
+use table::LIMIT;
+use table::STEPS;
+use table::Table;
+use table::refusals;
+ghost use mathlib.Core.Path.{_≡_};
+ghost use Rattle.table.specs.Refusals.{firstOf};
+ghost use Rattle.taskfile.specs.Reading.{misplaced, sizesWrong, outside, disordered, faultAt};
+ghost use Rattle.taskfile.specs.Records.{seenOf, bodyFaults};
+
+// 3: the first kind is not that of the sizes, or the sizes come again.
+fn is_misplaced(seen: Seen, kind: usize) -> bool
+    ensures { λ r. ⌜ r ≡ misplaced (seenOf seen) kind ⌝ }
+{
+    if seen.kind == kinds::NONE {
+        kind != kinds::SIZES
+    } else {
+        kind == kinds::SIZES
+    }
+}
+
+// 4: a size is out of range.
+fn sizes_wrong(f: usize, a: usize, l: usize) -> bool
+    ensures { λ r. ⌜ r ≡ sizesWrong f a l ⌝ }
+{
+    !((0 < f) & (f <= FACTS) & ((0 < a) & (a <= ACTIONS)) & (l <= LIMIT))
+}
+
+// 5: a fact or an action is outside.
+fn is_outside(table: Table, kind: usize, x: usize, y: usize) -> bool
+    ensures { λ r. ⌜ r ≡ outside table kind x y ⌝ }
+{
+    (kinds::is_fact_kind(kind) & (table.facts <= x))
+        | (kinds::is_cell_kind(kind) & ((table.actions <= x) | (table.facts <= y)))
+        | ((kind == kinds::STEP) & (table.actions <= x))
+}
+
+// 6: the kind goes down, or the body does not ascend.
+fn is_disordered(seen: Seen, kind: usize, body: usize) -> bool
+    ensures { λ r. ⌜ r ≡ disordered (seenOf seen) kind body ⌝ }
+{
+    (kind < seen.kind)
+        | ((kind == seen.kind)
+            & (kinds::is_fact_kind(kind) | kinds::is_cell_kind(kind))
+            & (body <= seen.body))
+}
+
+// The first of the faults that a whole body can have: 4, 5, 6, 7; 0 where it has none.
+fn body_fault(s: &[u8], at: usize, seen: Seen) -> usize
+    ensures { λ r. ⌜ r ≡ firstOf (bodyFaults (now (s .entry)) at (seenOf seen)) .number ⌝ }
+{
+    let kind = parts::kind_at(s, at);
+    let x = parts::number_at(s, at, 0);
+    let y = parts::number_at(s, at, 1);
+    let z = parts::number_at(s, at, 2);
+    let body = parts::body_number(s, at);
+    let table = seen.task.table;
+    let misfit = (kind == kinds::SIZES) & sizes_wrong(x, y, z);
+    let beyond = is_outside(table, kind, x, y);
+    let down = is_disordered(seen, kind, body);
+    let full = (kind == kinds::STEP) & (STEPS <= seen.task.run.count);
+    if misfit {
+        return refusals::SIZE_OUTSIDE;
+    }
+    if beyond {
+        return refusals::NUMBER_OUTSIDE;
+    }
+    if down {
+        return refusals::NOT_ASCENDING;
+    }
+    if full {
+        return refusals::TOO_MANY_STEPS;
+    }
+    refusals::ACCEPTED
+}
+
+// The number of the first fault of the record at a place; 0 where it is good.
+pub fn fault_at(s: &[u8], at: usize, seen: Seen) -> usize
+    ensures { λ r. ⌜ r ≡ faultAt (now (s .entry)) at (seenOf seen) .number ⌝ }
+{
+    if s.len() <= at {
+        return refusals::NO_END;
+    }
+    let kind = parts::kind_at(s, at);
+    if !kinds::is_kind(kind) {
+        return refusals::UNKNOWN_KIND;
+    }
+    if is_misplaced(seen, kind) {
+        return refusals::SIZES_MISPLACED;
+    }
+    if s.len() - at <= kinds::body_length(kind) {
+        return refusals::NO_END;
+    }
+    body_fault(s, at, seen)
+}

@@ -1,0 +1,54 @@
+// The kinds of record and the length of each kind's body (document 01, "The task file").
+ghost use mathlib.Core.Path.{_≡_};
+ghost use Rattle.taskfile.specs.Format.{isKind, isCellKind, isFactKind, bodyLength};
+
+// Before the first record.
+pub const NONE: usize = 0;
+
+pub const SIZES: usize = 1;
+
+pub const START: usize = 2;
+
+pub const GOAL: usize = 3;
+
+pub const NEED: usize = 4;
+
+pub const ADD: usize = 5;
+
+pub const DELETE: usize = 6;
+
+pub const STEP: usize = 7;
+
+pub const END: usize = 8;
+
+pub fn is_kind(kind: usize) -> bool
+    ensures { λ r. ⌜ r ≡ isKind kind ⌝ }
+{
+    (SIZES <= kind) & (kind <= END)
+}
+
+// Need, add or delete: the body is an action and a fact.
+pub fn is_cell_kind(kind: usize) -> bool
+    ensures { λ r. ⌜ r ≡ isCellKind kind ⌝ }
+{
+    (NEED <= kind) & (kind <= DELETE)
+}
+
+// Start or goal: the body is a fact.
+pub fn is_fact_kind(kind: usize) -> bool
+    ensures { λ r. ⌜ r ≡ isFactKind kind ⌝ }
+{
+    (kind == START) | (kind == GOAL)
+}
+
+pub fn body_length(kind: usize) -> usize
+    ensures { λ r. ⌜ r ≡ bodyLength kind ⌝ }
+{
+    if kind == SIZES {
+        return 3;
+    }
+    if is_cell_kind(kind) {
+        return 2;
+    }
+    if kind == END { 0 } else { 1 }
+}
