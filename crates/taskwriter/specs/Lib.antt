@@ -1,0 +1,4 @@
+-- What the contracts of `taskwriter` cite.
+pub mod Writing
+pub mod Placing
+pub mod Pieces
