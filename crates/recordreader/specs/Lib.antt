@@ -1,0 +1,2 @@
+-- What the record reader's contracts cite.
+pub mod Places
