@@ -1,0 +1,401 @@
+-- Laws of sets of one fact's repairs: their lists, one repair more, and which of two comes first.
+use mathlib.Core.Bool.{Bool, true, false, cond, not, _&&_, _||_, false≢true, or-comm}
+use mathlib.Core.List.{List, [], _∷_, _++_}
+use mathlib.Core.Logic.{_⊎_, inl, inr}
+use mathlib.Core.Path.{_≡_, refl, sym, ap, ap₂, _∙_, subst}
+use Prim.Native.Nat.{ℕ, zero, suc, _+_, _*_, _/_, _%_, _<_, _≤_}
+use native.Mathlib.Decide.{decLt}
+use native.Mathlib.Numerals.{add-one}
+use native.Mathlib.Omega.{arith}
+use borrow.Author.Tests.{eqb-true, eq-eqb, eqb-false, ne-eqb, ltb-true, ltb-false}
+use lib.Dec.{eqb, ltb}
+use lib.ListN.{length, length-append}
+use Rattle.facts.specs.Sets.{has, joined, only}
+use Rattle.facts.proofs.Laws.{has-empty, has-joined, has-only}
+use Rattle.table.specs.Lists.{gather, piece}
+use Rattle.table.specs.Order.{isIn, AscendingFrom, Ascending, NotAfter, _≼_}
+use Rattle.table.specs.Repairs.{byKind, factOf}
+use Rattle.table.specs.Sizes.{perFact, perKind, kinds}
+use Rattle.table.proofs.FlagLaws.{or-cases, or-left, or-right, and-left, and-right, and-both, same-flag, is-false}
+use Rattle.table.proofs.OrderLaws
+use Rattle.search.specs.declared.Choice.{Choice}
+use Rattle.search.specs.Choices.{codeKind, codeAction, codeNumber, nothing, inChoice, numbersIn, listOf, Contains}
+use Rattle.search.specs.Trying.{withMask, maskIn, withRepair, FirstDifference, Earlier}
+
+-- ---- the list of a set of codes
+
+-- The numbers of fact f whose codes below n are in P, in order: `listOf` over any set and up to any code.
+unfoldable pub codes : (ℕ → Bool) → ℕ → ℕ → List ℕ
+codes P f n = gather (λ code. piece (P code) (codeNumber f code ∷ [])) n
+
+-- Where a number of the list comes from.
+pub record Collected (P : ℕ → Bool) (f n m : ℕ) : Type 0 where
+  pub code : ℕ
+  pub below : code < n
+  pub chosen : P code ≡ true
+  pub number : m ≡ codeNumber f code
+
+-- What a code adds to the length.
+abbrev pub weight : Bool → ℕ
+weight b = cond b 1 0
+
+module _ (P : ℕ → Bool) (f : ℕ) where
+  codes-next : (n : ℕ) → codes P f (suc n) ≡ codes P f n ++ piece (P n) (codeNumber f n ∷ [])
+  unfolding codes gather
+  codes-next n = refl
+
+  piece-in : (b : Bool) (x m : ℕ) → isIn (piece b (x ∷ [])) m ≡ true → (b ≡ true) × (m ≡ x)
+  piece-in true x m h = (refl, pick (OrderLaws.isIn-cases x [] m h))
+    where
+      pick : (m ≡ x) ⊎ (isIn [] m ≡ true) → m ≡ x
+      pick (inl e) = e
+      pick (inr t) = absurd (OrderLaws.isIn-none m t)
+  piece-in false x m h = absurd (OrderLaws.isIn-none m h)
+
+  pub collected : (n m : ℕ) → isIn (codes P f n) m ≡ true → Collected P f n m
+  unfolding codes gather
+  collected zero m h = absurd (OrderLaws.isIn-none m h)
+  collected (suc n) m h = pick (OrderLaws.isIn-either (codes P f n) (piece (P n) (codeNumber f n ∷ [])) m h) (collected n m)
+    where
+      pick : (isIn (codes P f n) m ≡ true) ⊎ (isIn (piece (P n) (codeNumber f n ∷ [])) m ≡ true)
+          → (isIn (codes P f n) m ≡ true → Collected P f n m) → Collected P f (suc n) m
+      pick (inl t) rest =
+          record {
+            code = rest t .code;
+            below = omega (arith, rest t .below);
+            chosen = rest t .chosen;
+            number = rest t .number;
+          }
+      pick (inr t) rest =
+          record {
+            code = n;
+            below = omega arith;
+            chosen = piece-in (P n) (codeNumber f n) m t .0;
+            number = piece-in (P n) (codeNumber f n) m t .1;
+          }
+
+  codes-before : (n m : ℕ) → isIn (codes P f n) m ≡ true → m < codeNumber f n
+  codes-before n m h = let d = collected n m h in omega (arith, d .below, d .number)
+
+  pub collects : (n code : ℕ) → code < n → P code ≡ true → isIn (codes P f n) (codeNumber f code) ≡ true
+  unfolding codes gather
+  collects zero code h t = absurd (omega arith)
+  collects (suc n) code h t = pick (decLt code n) (λ later. collects n code later t)
+    where
+      last : codeNumber f code ≡ codeNumber f n → P n ≡ true → isIn (piece (P n) (codeNumber f n ∷ [])) (codeNumber f code) ≡ true
+      last e p = rw (p, e) (OrderLaws.isIn-head (codeNumber f n) [])
+
+      pick : Dec (code < n) → (code < n → isIn (codes P f n) (codeNumber f code) ≡ true)
+          → isIn (codes P f n ++ piece (P n) (codeNumber f n ∷ [])) (codeNumber f code) ≡ true
+      pick (yes later) rest =
+          OrderLaws.isIn-left (codes P f n) (piece (P n) (codeNumber f n ∷ [])) (codeNumber f code) (rest later)
+      pick (no here) rest =
+          let e : code ≡ n = omega arith in
+          OrderLaws.isIn-right (codes P f n) (piece (P n) (codeNumber f n ∷ [])) (codeNumber f code)
+          (last (ap (λ c. codeNumber f c) e) (subst (λ c. P c ≡ true) e t))
+
+  piece-ascending : (b : Bool) (x : ℕ) → AscendingFrom x (piece b (x ∷ []))
+  piece-ascending true x = (omega arith, tt)
+  piece-ascending false x = tt
+
+  pub codes-ascending : (n : ℕ) → Ascending (codes P f n)
+  unfolding codes gather
+  codes-ascending zero = tt
+  codes-ascending (suc n) =
+      OrderLaws.ascending-append 0 (codeNumber f n) (codes P f n) (piece (P n) (codeNumber f n ∷ [])) (codes-ascending n) (codes-before n)
+      (omega arith) (piece-ascending (P n) (codeNumber f n))
+
+  pub codes-length : (n : ℕ) → length (codes P f (suc n)) ≡ length (codes P f n) + weight (P n)
+  codes-length n =
+      rw (codes-next n, length-append) (ap (λ k. length (codes P f n) + k) (pick (P n)))
+    where
+      pick : (b : Bool) → length (piece b (codeNumber f n ∷ [])) ≡ weight b
+      pick true = refl
+      pick false = refl
+
+-- The length is that of the set of codes alone.
+pub codes-same-length : (P Q : ℕ → Bool) (f g n : ℕ) → ((c : ℕ) → c < n → P c ≡ Q c) → length (codes P f n) ≡ length (codes Q g n)
+unfolding codes gather
+codes-same-length P Q f g zero same = refl
+codes-same-length P Q f g (suc n) same =
+    let more : weight (P n) ≡ weight (Q n) = ap weight (same n (omega arith)) in
+    let before : length (codes P f n) ≡ length (codes Q g n) = codes-same-length P Q f g n (λ c h. same c (omega arith)) in
+    omega (arith, codes-length P f n, codes-length Q g n)
+
+-- One code more makes it one longer.
+pub codes-longer : (P Q : ℕ → Bool) (f n code : ℕ) → code < n → P code ≡ false → ((c : ℕ) → c < n → Q c ≡ (eqb c code || P c))
+    → length (codes Q f n) ≡ suc (length (codes P f n))
+codes-longer P Q f zero code h out more = absurd (omega arith)
+codes-longer P Q f (suc n) code h out more =
+    pick (decLt code n) (λ later. codes-longer P Q f n code later out (λ c k. more c (omega arith)))
+  where
+    at-last : weight (P n) + 1 ≡ weight (Q n) → length (codes Q f n) ≡ length (codes P f n)
+        → length (codes Q f (suc n)) ≡ suc (length (codes P f (suc n)))
+    at-last e s = omega (arith, codes-length P f n, codes-length Q f n)
+
+    passed : Q n ≡ P n → length (codes Q f n) ≡ suc (length (codes P f n))
+        → length (codes Q f (suc n)) ≡ suc (length (codes P f (suc n)))
+    passed e s =
+        let same : weight (Q n) ≡ weight (P n) = ap weight e in
+        omega (arith, codes-length P f n, codes-length Q f n)
+
+    pick : Dec (code < n) → (code < n → length (codes Q f n) ≡ suc (length (codes P f n)))
+        → length (codes Q f (suc n)) ≡ suc (length (codes P f (suc n)))
+    pick (yes later) rest =
+        passed (more n (omega arith) ∙ ap (λ b. b || P n) (ne-eqb n code (λ e. absurd (omega arith)))) (rest later)
+    pick (no here) rest =
+        let e : n ≡ code = omega arith in
+        let in-Q : Q n ≡ true = more n (omega arith) ∙ or-left (eqb n code) (P n) (eq-eqb n code e) in
+        let not-P : P n ≡ false = ap P e ∙ out in
+        at-last (rw (in-Q, not-P))
+        (codes-same-length Q P f f n (λ c k. more c (omega arith) ∙ ap (λ b. b || P c) (ne-eqb c code (λ d. absurd (omega arith)))))
+
+-- ---- the list of a choice
+
+module _ (f : ℕ) (s : Choice) where
+  pub listOf-ascending : Ascending (listOf f s)
+  unfolding listOf codes
+  listOf-ascending = codes-ascending (inChoice s) f perFact
+
+  pub listOf-collected : (n : ℕ) → isIn (listOf f s) n ≡ true → Collected (inChoice s) f perFact n
+  unfolding listOf codes
+  listOf-collected n h = collected (inChoice s) f perFact n h
+
+  pub listOf-has : (code : ℕ) → code < perFact → inChoice s code ≡ true → isIn (listOf f s) (codeNumber f code) ≡ true
+  unfolding listOf codes
+  listOf-has code h t = collects (inChoice s) f perFact code h t
+
+  pub listOf-members : (n : ℕ) → isIn (listOf f s) n ≡ numbersIn f s n
+  unfolding numbersIn
+  listOf-members n = same-flag (isIn (listOf f s) n) (eqb (factOf n) f && inChoice s (n % perFact)) there back
+    where
+      there : isIn (listOf f s) n ≡ true → (eqb (factOf n) f && inChoice s (n % perFact)) ≡ true
+      there h =
+          let d = listOf-collected n h in
+          let e : n % perFact ≡ d .code = omega (arith, d .below, d .number) in
+          and-both (eqb (factOf n) f) (inChoice s (n % perFact)) (eq-eqb (factOf n) f (omega (arith, d .below, d .number)))
+          (ap (inChoice s) e ∙ d .chosen)
+
+      back : (eqb (factOf n) f && inChoice s (n % perFact)) ≡ true → isIn (listOf f s) n ≡ true
+      back h =
+          let own : n / perFact ≡ f = eqb-true (factOf n) f (and-left (eqb (factOf n) f) (inChoice s (n % perFact)) h) in
+          let e : codeNumber f (n % perFact) ≡ n = omega arith in
+          subst (λ k. isIn (listOf f s) k ≡ true) e
+          (listOf-has (n % perFact) (omega arith) (and-right (eqb (factOf n) f) (inChoice s (n % perFact)) h))
+
+  -- A set of numbers that contains the choice has every number of its list.
+  pub contains-list : (R : ℕ → Bool) → Contains R f s → (n : ℕ) → isIn (listOf f s) n ≡ true → R n ≡ true
+  contains-list R part n h =
+      let d = listOf-collected n h in
+      subst (λ k. R k ≡ true) (sym (d .number)) (part (d .code) (d .below) (d .chosen))
+
+-- The length does not depend on the fact.
+pub length-any : (f g : ℕ) (s : Choice) → length (listOf f s) ≡ length (listOf g s)
+unfolding listOf codes
+length-any f g s = codes-same-length (inChoice s) (inChoice s) f g perFact (λ c h. refl)
+
+pub in-nothing : (code : ℕ) → inChoice nothing code ≡ false
+unfolding inChoice nothing
+in-nothing code = ap (λ m. has m (codeAction code)) (none (codeKind code)) ∙ has-empty (codeAction code)
+  where
+    none : (k : ℕ) → byKind {A = ℕ} k 0 0 0 ≡ 0
+    none k = both (eqb k 0) (eqb k 1)
+      where
+        both : (a b : Bool) → cond {A = ℕ} a 0 (cond b 0 0) ≡ 0
+        both true b = refl
+        both false true = refl
+        both false false = refl
+
+-- ---- one repair more
+
+-- The kinds, one by one.
+by-kinds : (Q : ℕ → Type 0) → Q 0 → Q 1 → Q 2 → (k : ℕ) → k < kinds → Q k
+by-kinds Q a b c zero h = a
+by-kinds Q a b c (suc zero) h = b
+by-kinds Q a b c (suc (suc zero)) h = c
+by-kinds Q a b c (suc (suc (suc k))) h = absurd (omega arith)
+
+maskIn-with : (j k m : ℕ) (s : Choice) → j < kinds → k < kinds → maskIn j (withMask k m s) ≡ cond (eqb j k) m (maskIn j s)
+maskIn-with j k m s hj hk =
+    by-kinds (λ k. maskIn j (withMask k m s) ≡ cond (eqb j k) m (maskIn j s)) (at 0 refl refl refl) (at 1 refl refl refl) (at 2 refl refl refl) k hk
+  where
+    at : (k : ℕ) → maskIn 0 (withMask k m s) ≡ cond (eqb 0 k) m (maskIn 0 s) → maskIn 1 (withMask k m s) ≡ cond (eqb 1 k) m (maskIn 1 s)
+        → maskIn 2 (withMask k m s) ≡ cond (eqb 2 k) m (maskIn 2 s) → maskIn j (withMask k m s) ≡ cond (eqb j k) m (maskIn j s)
+    at k a b c = by-kinds (λ j. maskIn j (withMask k m s) ≡ cond (eqb j k) m (maskIn j s)) a b c j hj
+
+-- The codes of a set with one repair more: that one, and the set's own.
+pub in-with : (s : Choice) (code c : ℕ) → code < perFact → c < perFact → inChoice (withRepair s code) c ≡ (eqb c code || inChoice s c)
+unfolding inChoice withRepair
+in-with s code c hcode hc =
+    ap (λ m. has m (codeAction c)) (maskIn-with (codeKind c) (codeKind code) _ s (omega arith) (omega arith)) ∙
+    pick (eqb (codeKind c) (codeKind code)) refl
+  where
+    same : codeKind c ≡ codeKind code → eqb (codeAction c) (codeAction code) ≡ eqb c code
+    same e =
+        same-flag (eqb (codeAction c) (codeAction code)) (eqb c code)
+        (λ h. let a = eqb-true (codeAction c) (codeAction code) h in eq-eqb c code (omega arith))
+        (λ h. let a = eqb-true c code h in eq-eqb (codeAction c) (codeAction code) (omega arith))
+
+    pick : (b : Bool) → eqb (codeKind c) (codeKind code) ≡ b
+        → has (cond b (joined (maskIn (codeKind code) s) (only (codeAction code))) (maskIn (codeKind c) s)) (codeAction c)
+        ≡ (eqb c code || has (maskIn (codeKind c) s) (codeAction c))
+    pick true h =
+        let e = eqb-true (codeKind c) (codeKind code) h in
+        has-joined (maskIn (codeKind code) s) (only (codeAction code)) (codeAction c) ∙
+        or-comm (has (maskIn (codeKind code) s) (codeAction c)) (has (only (codeAction code)) (codeAction c)) ∙
+        ap₂ (λ x k. x || has (maskIn k s) (codeAction c)) (has-only (codeAction code) (codeAction c) (omega arith) ∙ same e) (sym e)
+    pick false h =
+        ap (λ x. x || has (maskIn (codeKind c) s) (codeAction c))
+        (sym (ne-eqb c code (λ e. eqb-false (codeKind c) (codeKind code) h (ap (λ k. codeKind k) e))))
+
+pub with-has : (s : Choice) (code : ℕ) → code < perFact → inChoice (withRepair s code) code ≡ true
+with-has s code h = in-with s code code h h ∙ or-left (eqb code code) (inChoice s code) (eq-eqb code code refl)
+
+pub with-keeps : (s : Choice) (code c : ℕ) → code < perFact → c < perFact → inChoice s c ≡ true → inChoice (withRepair s code) c ≡ true
+with-keeps s code c hcode hc t = in-with s code c hcode hc ∙ or-right (eqb c code) (inChoice s c) t
+
+pub with-cases : (s : Choice) (code c : ℕ) → code < perFact → c < perFact → inChoice (withRepair s code) c ≡ true
+    → (c ≡ code) ⊎ (inChoice s c ≡ true)
+with-cases s code c hcode hc t = pick (or-cases (eqb c code) (inChoice s c) (sym (in-with s code c hcode hc) ∙ t))
+  where
+    pick : (eqb c code ≡ true) ⊎ (inChoice s c ≡ true) → (c ≡ code) ⊎ (inChoice s c ≡ true)
+    pick (inl e) = inl (eqb-true c code e)
+    pick (inr h) = inr h
+
+-- A repair that was not in the set makes its list one longer.
+pub with-length : (f : ℕ) (s : Choice) (code : ℕ) → code < perFact → inChoice s code ≡ false
+    → length (listOf f (withRepair s code)) ≡ suc (length (listOf f s))
+unfolding listOf codes
+with-length f s code h out =
+    codes-longer (inChoice s) (inChoice (withRepair s code)) f perFact code h out (λ c hc. in-with s code c h hc)
+
+module _ (R : ℕ → Bool) (f : ℕ) (s : Choice) (code : ℕ) (h : code < perFact) where
+  pub contains-with : Contains R f s → R (codeNumber f code) ≡ true → Contains R f (withRepair s code)
+  contains-with part more c hc t = pick (with-cases s code c h hc t)
+    where
+      pick : (c ≡ code) ⊎ (inChoice s c ≡ true) → R (codeNumber f c) ≡ true
+      pick (inl e) = subst (λ k. R (codeNumber f k) ≡ true) (sym e) more
+      pick (inr t) = part c hc t
+
+  pub contains-without : Contains R f (withRepair s code) → Contains R f s
+  contains-without part c hc t = part c hc (with-keeps s code c h hc t)
+
+  pub contains-repair : Contains R f (withRepair s code) → R (codeNumber f code) ≡ true
+  contains-repair part = part code h (with-has s code h)
+
+-- ---- the empty choice
+
+pub nothing-list : (f : ℕ) → listOf f nothing ≡ []
+nothing-list f =
+    OrderLaws.same-members 0 0 (listOf f nothing) [] (listOf-ascending f nothing) tt
+    (λ n h. let d = listOf-collected f nothing n h in absurd (false≢true (sym (in-nothing (d .code)) ∙ d .chosen)))
+    (λ n h. absurd (OrderLaws.isIn-none n h))
+
+pub nothing-contained : (R : ℕ → Bool) (f : ℕ) → Contains R f nothing
+nothing-contained R f code h t = absurd (false≢true (sym (in-nothing code) ∙ t))
+
+-- ---- which of two comes first
+
+-- Sets that agree below a code have the same numbers below it.
+agree-below : (f : ℕ) (a b : Choice) (code : ℕ) → ((c : ℕ) → c < code → inChoice a c ≡ inChoice b c)
+    → (m : ℕ) → m < codeNumber f code → isIn (listOf f a) m ≡ true → isIn (listOf f b) m ≡ true
+agree-below f a b code same m h t =
+    let d = listOf-collected f a m t in
+    let low : d .code < code = omega (arith, d .number) in
+    subst (λ k. isIn (listOf f b) k ≡ true) (sym (d .number)) (listOf-has f b (d .code) (d .below) (sym (same (d .code) low) ∙ d .chosen))
+
+-- Of two ascending lists of equal length, the one that has the first number in which they differ comes first.
+pub first-difference-first : (la lb : ℕ) (a b : List ℕ) (n : ℕ) → AscendingFrom la a → AscendingFrom lb b → length a ≡ length b
+    → isIn a n ≡ true → (isIn b n ≡ true → ⊥) → ((m : ℕ) → m < n → isIn a m ≡ true → isIn b m ≡ true)
+    → ((m : ℕ) → m < n → isIn b m ≡ true → isIn a m ≡ true) → NotAfter a b
+first-difference-first la lb [] b n u v e here gone there back = absurd (OrderLaws.isIn-none n here)
+first-difference-first la lb (x ∷ a) [] n u v e here gone there back = absurd (omega arith)
+first-difference-first la lb (x ∷ a) (y ∷ b) n u v e here gone there back =
+    pick (OrderLaws.compared x y) (first-difference-first (suc x) (suc y) a b n (u .1) (v .1))
+  where
+    same : length a ≡ length b
+    same = omega arith
+
+    x-le : x ≤ n
+    x-le = OrderLaws.ascending-later x (x ∷ a) n (omega arith, u .1) here
+
+    in-tail : (z w m : ℕ) (l k : List ℕ) → AscendingFrom (suc z) l → z ≡ w → isIn l m ≡ true → isIn (w ∷ k) m ≡ true → isIn k m ≡ true
+    in-tail z w m l k asc zw t h = cases (OrderLaws.isIn-cases w k m h)
+      where
+        cases : (m ≡ w) ⊎ (isIn k m ≡ true) → isIn k m ≡ true
+        cases (inl q) = absurd (omega (arith, OrderLaws.ascending-later (suc z) l m asc t))
+        cases (inr q) = q
+
+    later : x ≡ y → isIn a n ≡ true
+    later q = cases (OrderLaws.isIn-cases x a n here)
+      where
+        cases : (n ≡ x) ⊎ (isIn a n ≡ true) → isIn a n ≡ true
+        cases (inl p) = absurd (gone (subst (λ k. isIn (k ∷ b) n ≡ true) q (subst (λ k. isIn (x ∷ b) k ≡ true) (sym p) (OrderLaws.isIn-head x b))))
+        cases (inr p) = p
+
+    pick : (x < y) ⊎ ((x ≡ y) ⊎ (y < x))
+        → (length a ≡ length b → isIn a n ≡ true → (isIn b n ≡ true → ⊥) → ((m : ℕ) → m < n → isIn a m ≡ true → isIn b m ≡ true)
+        → ((m : ℕ) → m < n → isIn b m ≡ true → isIn a m ≡ true) → NotAfter a b)
+        → NotAfter (x ∷ a) (y ∷ b)
+    pick (inl p) rest = inl (p, same)
+    pick (inr (inl p)) rest =
+        inr (
+          p,
+          rest same (later p) (λ t. gone (OrderLaws.isIn-tail y b n t))
+              (λ m h t. in-tail x y m a b (u .1) p t (there m h (OrderLaws.isIn-tail x a m t)))
+              (λ m h t. in-tail y x m b a (v .1) (sym p) t (back m h (OrderLaws.isIn-tail y b m t))),
+        )
+    pick (inr (inr p)) rest =
+        let before : y < n = omega (arith, x-le) in
+        absurd (omega (arith, OrderLaws.ascending-later x (x ∷ a) y (omega arith, u .1) (back y before (OrderLaws.isIn-head y b))))
+
+-- The set that has the first code in which they differ comes first, at equal length.
+ahead : (f : ℕ) (a b : Choice) (code : ℕ) → code < perFact → ((c : ℕ) → c < code → inChoice a c ≡ inChoice b c)
+    → inChoice a code ≡ true → inChoice b code ≡ false → length (listOf f a) ≡ length (listOf f b) → listOf f a ≼ listOf f b
+ahead f a b code h same here gone e =
+    inr (first-difference-first 0 0 (listOf f a) (listOf f b) (codeNumber f code) (listOf-ascending f a) (listOf-ascending f b) e
+    (listOf-has f a code h here) absent (agree-below f a b code same) (agree-below f b a code (λ c k. sym (same c k))))
+  where
+    absent : isIn (listOf f b) (codeNumber f code) ≡ true → ⊥
+    absent t =
+        let d = listOf-collected f b (codeNumber f code) t in
+        let q : d .code ≡ code = omega (arith, d .number) in
+        false≢true (sym gone ∙ ap (inChoice b) (sym q) ∙ d .chosen)
+
+-- Sets with the same codes have the same list.
+pub same-list : (f : ℕ) (a b : Choice) → ((c : ℕ) → c < perFact → inChoice a c ≡ inChoice b c) → listOf f a ≡ listOf f b
+same-list f a b same =
+    OrderLaws.same-members 0 0 (listOf f a) (listOf f b) (listOf-ascending f a) (listOf-ascending f b) (all a b same)
+    (all b a (λ c h. sym (same c h)))
+  where
+    all : (a b : Choice) → ((c : ℕ) → c < perFact → inChoice a c ≡ inChoice b c) → (n : ℕ) → isIn (listOf f a) n ≡ true → isIn (listOf f b) n ≡ true
+    all a b same n t = let d = listOf-collected f a n t in agree-below f a b perFact same n (omega (arith, d .below, d .number)) t
+
+pub earlier-same : (a b : Choice) (t : Bool) → ((f : ℕ) → listOf f a ≡ listOf f b) → Earlier a b t
+earlier-same a b true same = λ f. subst (λ l. listOf f a ≼ l) (same f) (OrderLaws.≼-refl (listOf f a))
+earlier-same a b false same = λ f. subst (λ l. l ≼ listOf f a) (same f) (OrderLaws.≼-refl (listOf f a))
+
+pub earlier-difference : (a b : Choice) (code : ℕ) → FirstDifference a b code
+    → ((f : ℕ) → length (listOf f a) ≡ length (listOf f b)) → Earlier a b (inChoice a code)
+earlier-difference a b code d e = pick (decLt code perFact) (inChoice a code) refl
+  where
+    other : (t : Bool) → code < perFact → inChoice a code ≡ t → inChoice b code ≡ not t
+    other true h t = is-false (inChoice b code) (λ u. d .differs h (t ∙ sym u))
+    other false h t = is-true (inChoice b code) (λ u. d .differs h (t ∙ sym u))
+      where
+        is-true : (x : Bool) → (x ≡ false → ⊥) → x ≡ true
+        is-true true k = refl
+        is-true false k = absurd (k refl)
+
+    pick : Dec (code < perFact) → (t : Bool) → inChoice a code ≡ t → Earlier a b t
+    pick (yes h) true t = λ f. ahead f a b code h (d .same) t (other true h t) (e f)
+    pick (yes h) false t = λ f. ahead f b a code h (λ c k. sym (d .same c k)) (other false h t) t (sym (e f))
+    pick (no h) t u = earlier-same a b t (λ f. same-list f a b (λ c k. d .same c (omega arith)))
+
+pub earlier-shorter : (a b : Choice) (m n : ℕ) → ((f : ℕ) → m ≡ length (listOf f a)) → ((f : ℕ) → n ≡ length (listOf f b))
+    → (m ≡ n → ⊥) → Earlier a b (ltb m n)
+earlier-shorter a b m n p q ne = pick (ltb m n) refl
+  where
+    pick : (t : Bool) → ltb m n ≡ t → Earlier a b t
+    pick true h = λ f. inl (omega (arith, ltb-true m n h, p f, q f))
+    pick false h = λ f. inl (omega (arith, ltb-false m n h, p f, q f, ne))

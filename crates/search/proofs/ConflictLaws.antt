@@ -1,0 +1,316 @@
+-- Laws of a conflict (document 01, "A conflict"; source document 000): what looking back and gathering actions keep while
+-- they run, and that the repairs so found are a conflict of the candidate. Assumes nothing.
+use mathlib.Core.Bool.{Bool, true, false, not, _&&_, _||_, and-false, false≢true, true≢false}
+use mathlib.Core.Logic.{_⊎_, inl, inr, ⊎-elim}
+use mathlib.Core.Path.{_≡_, refl, sym, ap, subst, _∙_}
+use Prim.Native.Nat.{ℕ, zero, suc, _+_, _-_, _*_, _<_, _≤_, min, max}
+use native.Mathlib.Nat.{eq-or-lt-of-le, le-of-suc-le-suc, lt-of-lt-of-le}
+use native.Mathlib.Numerals.{add-one}
+use native.Mathlib.Omega.{arith}
+use lib.Dec.{eqb, ltb}
+use borrow.Author.Tests.{eq-eqb, eqb-true, lt-ltb, not-true}
+use Rattle.facts.specs.Sets.{width, has, joined, only}
+use Rattle.facts.proofs.Laws.{has-empty, has-joined, has-only}
+use Rattle.table.specs.Sizes.{maxActions, kinds, perFact, perKind}
+use Rattle.table.specs.Strips.{Cells, Course, stateAt, Right}
+use Rattle.table.specs.Repairs.{byKind, numberOf, dropDelete, addEffect, dropNeed, chosen, repaired, permits}
+use Rattle.table.proofs.FlagLaws.{or-cases, or-left, or-right, and-left, and-right, and-both, is-false}
+use Rattle.table.proofs.RepairNumbers.{permitted-number}
+use Rattle.table.proofs.RunLaws.{stateAt-first, stateAt-next}
+use Rattle.search.specs.declared.Column.{Column}
+use Rattle.search.specs.declared.Choice.{Choice}
+use Rattle.search.specs.Choices.{inChoice, codeKind, codeAction, codeNumber, numbersIn}
+use Rattle.search.specs.Columns.{cellsIn, courseIn, ColumnFormed}
+use Rattle.search.specs.Gaps.{LastDelete, ActionsOf}
+use Rattle.search.specs.Searching.{cellsWith, NeededAt, by-step, by-goal, Missing, Allowed, Conflicts}
+use Rattle.search.specs.Trying.{maskIn}
+use Rattle.search.proofs.ColumnLaws.{chosen-has, inChoice-has}
+
+-- ---- looking back
+
+-- No step from place i on and before j deletes the fact.
+abbrev pub NoDelete : Column → Choice → ℕ → ℕ → Type 0
+NoDelete col s j i = (k : ℕ) → i ≤ k → k < j → cellsWith col s .deletes (courseIn col .step k) (col .fact) ≡ false
+
+pub noDelete-none : (col : Column) (s : Choice) (j : ℕ) → NoDelete col s j j
+noDelete-none col s j k low high = absurd (omega arith)
+
+pub noDelete-more : (col : Column) (s : Choice) (j i : ℕ) → NoDelete col s j i
+    → cellsWith col s .deletes (courseIn col .step (i - 1)) (col .fact) ≡ false → NoDelete col s j (i - 1)
+noDelete-more col s j i since here k low high = ⊎-elim
+    (λ e. subst (λ (p : ℕ). cellsWith col s .deletes (courseIn col .step p) (col .fact) ≡ false) e here)
+    (λ l. since k (omega arith) high) (eq-or-lt-of-le low)
+
+-- ---- gathering actions
+
+module _ (col : Column) (start : ℕ) where
+  pub actions-none : ActionsOf col start start 0
+  actions-none = record {
+    each = λ i low high. absurd (omega arith);
+    only = λ a h. absurd (false≢true (sym (has-empty a) ∙ h));
+  }
+
+  pub actions-more : (i m : ℕ) → start ≤ i → courseIn col .step i < width → ActionsOf col start i m
+      → ActionsOf col start (i + 1) (joined m (only (courseIn col .step i)))
+  actions-more i m low room found = record { each = each; only = gathered }
+    where
+      a : ℕ
+      a = courseIn col .step i
+
+      both : (b : ℕ) → has (joined m (only a)) b ≡ (has m b || eqb b a)
+      both b = has-joined m (only a) b ∙ ap (λ (t : Bool). has m b || t) (has-only a b room)
+
+      each : (k : ℕ) → start ≤ k → k < i + 1 → has (joined m (only a)) (courseIn col .step k) ≡ true
+      each k from to = both (courseIn col .step k) ∙ ⊎-elim
+          (λ e. or-right (has m (courseIn col .step k)) _ (eq-eqb _ a (ap (λ p. courseIn col .step p) e)))
+          (λ l. or-left (has m (courseIn col .step k)) _ (found .each k from l))
+          (eq-or-lt-of-le (le-of-suc-le-suc (subst (λ (n : ℕ). k < n) (add-one i) to)))
+
+      gathered : (b : ℕ) → has (joined m (only a)) b ≡ true → (k : ℕ) × (start ≤ k) × (k < i + 1) × (courseIn col .step k ≡ b)
+      gathered b h = ⊎-elim
+          (λ old. let w = found .only b old in (w .0, w .1, omega (arith, w .2), w .3))
+          (λ new. (i, low, omega arith, sym (eqb-true b a new)))
+          (or-cases (has m b) (eqb b a) (sym (both b) ∙ h))
+
+  pub actions-end : (i end m : ℕ) → end ≤ i → i ≤ max start end → ActionsOf col start i m → ActionsOf col start end m
+  actions-end i end m low high found = record {
+    each = λ k from to. found .each k from (omega arith);
+    only = λ a h. let w = found .only a h in (w .0, w .1, omega (arith, w .1, w .2), w .3);
+  }
+
+-- ---- a fact's state over some steps
+
+module _ (c : Cells) (r : Course) (f : ℕ) where
+  -- one step: what it leaves, from the state before, the delete and the add
+  next-added : (k : ℕ) → c .adds (r .step k) f ≡ true → stateAt c r (k + 1) f ≡ true
+  next-added k a = stateAt-next c r k f ∙ or-right (stateAt c r k f && not (c .deletes (r .step k) f)) (c .adds (r .step k) f) a
+
+  next-kept : (k : ℕ) → stateAt c r k f ≡ true → c .deletes (r .step k) f ≡ false → stateAt c r (k + 1) f ≡ true
+  next-kept k p d = stateAt-next c r k f ∙ rw (p, d)
+
+  next-absent : (k : ℕ) → stateAt c r k f ≡ false → c .adds (r .step k) f ≡ false → stateAt c r (k + 1) f ≡ false
+  next-absent k p a = stateAt-next c r k f ∙ rw (p, a)
+
+  next-deleted : (k : ℕ) → c .deletes (r .step k) f ≡ true → c .adds (r .step k) f ≡ false → stateAt c r (k + 1) f ≡ false
+  next-deleted k d a = stateAt-next c r k f ∙ rw (d, a, and-false (stateAt c r k f))
+
+  -- A state that each step from i to j keeps is the state at j.
+  carries : (b : Bool) (i j : ℕ) → i ≤ j → stateAt c r i f ≡ b
+      → ((k : ℕ) → i ≤ k → k < j → stateAt c r k f ≡ b → stateAt c r (k + 1) f ≡ b) → stateAt c r j f ≡ b
+  carries b i zero low here keep = let e : i ≡ 0 = omega arith in subst (λ (n : ℕ). stateAt c r n f ≡ b) e here
+  carries b i (suc j) low here keep = ⊎-elim
+      (λ e. subst (λ (n : ℕ). stateAt c r n f ≡ b) e here)
+      (λ l.
+      let less : i ≤ j = omega arith in
+      let before = carries b i j less here (λ k lo hi. keep k lo (omega arith)) in
+      subst (λ (n : ℕ). stateAt c r n f ≡ b) (add-one j) (keep j less (omega arith) before))
+      (eq-or-lt-of-le low)
+
+-- ---- what a repair of each kind would change
+
+-- The cell is one that a repair of kind k changes.
+abbrev repairable : Cells → ℕ → ℕ → ℕ → Bool
+repairable c f k a = byKind k (c .deletes a f) (not (c .adds a f)) (c .needs a f)
+
+not-or : (a b : Bool) → not (a || b) ≡ (not a && not b)
+not-or true b = refl
+not-or false b = refl
+
+-- Applying a set of repairs leaves the cells that it does not name.
+repaired-repairable : (c : Cells) (R : ℕ → Bool) (f k a : ℕ) → k < kinds
+    → repairable (repaired c R) f k a ≡ (repairable c f k a && not (chosen R f k a))
+repaired-repairable c R f zero a h = refl
+repaired-repairable c R f (suc zero) a h = not-or (c .adds a f) (chosen R f addEffect a)
+repaired-repairable c R f (suc (suc zero)) a h = refl
+repaired-repairable c R f (suc (suc (suc k))) a h = absurd (omega arith)
+
+-- A set of repairs has one of some codes, or none.
+find-code : (p : ℕ → Bool) (n : ℕ) → ((i : ℕ) × (i < n) × (p i ≡ true)) ⊎ ((i : ℕ) → i < n → p i ≡ false)
+find-code p zero = inr (λ i l. absurd (omega arith))
+find-code p (suc n) = here (p n) refl (find-code p n)
+  where
+    here : (b : Bool) → p n ≡ b → ((i : ℕ) × (i < n) × (p i ≡ true)) ⊎ ((i : ℕ) → i < n → p i ≡ false)
+        → ((i : ℕ) × (i < suc n) × (p i ≡ true)) ⊎ ((i : ℕ) → i < suc n → p i ≡ false)
+    here true e before = inl (n, omega arith, e)
+    here false e (inl w) = inl (w .0, omega (arith, w .1), w .2)
+    here false e (inr none) =
+        inr (λ i l. ⊎-elim (λ q. subst (λ (m : ℕ). p m ≡ false) (sym q) e) (none i) (eq-or-lt-of-le (le-of-suc-le-suc l)))
+
+-- ---- the conflict
+
+-- Where the conflict's repairs of kind k stand: the deleting step, the steps from it up to j - 1, the step at j.
+abbrev pub lowPlace : ℕ → ℕ → ℕ → ℕ
+lowPlace i j k = byKind k (i - 1) (i - 1) j
+
+abbrev pub highPlace : Column → ℕ → ℕ → ℕ → ℕ
+highPlace col i j k = byKind k i j (min (j + 1) (col .count))
+
+needed-within : (col : Column) (s : Choice) (j : ℕ) → NeededAt col s j → j ≤ col .count
+needed-within col s j (by-step h _) = omega arith
+needed-within col s j (by-goal e _) = omega arith
+
+pub missing-within : (col : Column) (s : Choice) (j : ℕ) → Missing col s j → j ≤ col .count
+missing-within col s j missing = needed-within col s j (missing .needed)
+
+module _ (col : Column) (s : Choice) (j i : ℕ) (missing : Missing col s j) (back : LastDelete col s j i) where
+  -- present at some place after the last delete, the fact would be present at j
+  absent-since : (m : ℕ) → i ≤ m → m ≤ j → stateAt (cellsWith col s) (courseIn col) m (col .fact) ≡ false
+  absent-since m low high = is-false _ (λ h.
+      true≢false
+      (sym (carries (cellsWith col s) (courseIn col) (col .fact) true m j high h
+      (λ k lo hi p. next-kept (cellsWith col s) (courseIn col) (col .fact) k p (back .since k (omega arith) hi)))
+      ∙ missing .absent))
+
+  no-adds : (k : ℕ) → i - 1 ≤ k → k < j → cellsWith col s .adds (courseIn col .step k) (col .fact) ≡ false
+  no-adds k low high = is-false _ (λ h.
+      true≢false
+      (sym (next-added (cellsWith col s) (courseIn col) (col .fact) k h)
+      ∙ absent-since (k + 1) (omega arith) (omega arith)))
+
+  -- with the candidate applied, each place of the conflict still has the cell that its repair changes
+  still : (k p : ℕ) → k < kinds → lowPlace i j k ≤ p → p < highPlace col i j k
+      → repairable (cellsWith col s) (col .fact) k (courseIn col .step p) ≡ true
+  still zero p h low high =
+      let e : i - 1 ≡ p = omega arith in
+      subst (λ (n : ℕ). cellsWith col s .deletes (courseIn col .step n) (col .fact) ≡ true) e (back .deleted (omega arith))
+  still (suc zero) p h low high = ap not (no-adds p low high)
+  still (suc (suc zero)) p h low high = need (missing .needed)
+    where
+      need : NeededAt col s j → cellsWith col s .needs (courseIn col .step p) (col .fact) ≡ true
+      need (by-step inside n) =
+          let e : j ≡ p = omega arith in
+          subst (λ (m : ℕ). cellsWith col s .needs (courseIn col .step m) (col .fact) ≡ true) e n
+      need (by-goal e g) = absurd (omega arith)
+  still (suc (suc (suc k))) p h low high = absurd (omega arith)
+
+module _ (col : Column) (s : Choice) (j i : ℕ) (formed : ColumnFormed col) (missing : Missing col s j) (back : LastDelete col s j i)
+    (q : Choice) (parts : (k : ℕ) → k < kinds → ActionsOf col (lowPlace i j k) (highPlace col i j k) (maskIn k q)) where
+  high-within : (k : ℕ) → k < kinds → highPlace col i j k ≤ col .count
+  high-within zero h = omega (arith, missing-within col s j missing, back .within)
+  high-within (suc zero) h = missing-within col s j missing
+  high-within (suc (suc zero)) h = omega arith
+  high-within (suc (suc (suc k))) h = absurd (omega arith)
+
+  -- at a place of the conflict: an action of the task, whose cell a repair changes that is not in the candidate
+  module _ (k p : ℕ) (hk : k < kinds) (low : lowPlace i j k ≤ p) (high : p < highPlace col i j k) where
+    place-action : courseIn col .step p < col .actions
+    unfolding courseIn
+    place-action = formed .steps-below p (lt-of-lt-of-le high (high-within k hk))
+
+    place-low : courseIn col .step p < maxActions
+    place-low = omega (arith, place-action, formed .actions-high)
+
+    place-cell : (repairable (cellsIn col) (col .fact) k (courseIn col .step p)
+        && not (chosen (numbersIn (col .fact) s) (col .fact) k (courseIn col .step p))) ≡ true
+    place-cell =
+        sym (repaired-repairable (cellsIn col) (numbersIn (col .fact) s) (col .fact) k (courseIn col .step p) hk)
+        ∙ still col s j i missing back k p hk low high
+
+    place-fresh : has (maskIn k s) (courseIn col .step p) ≡ false
+    place-fresh =
+        sym (chosen-has (col .fact) s k (courseIn col .step p) hk place-low)
+        ∙ not-true (chosen (numbersIn (col .fact) s) (col .fact) k (courseIn col .step p))
+        (and-right (repairable (cellsIn col) (col .fact) k (courseIn col .step p)) _ place-cell)
+
+    place-repairable : repairable (cellsIn col) (col .fact) k (courseIn col .step p) ≡ true
+    place-repairable =
+        and-left (repairable (cellsIn col) (col .fact) k (courseIn col .step p))
+        (not (chosen (numbersIn (col .fact) s) (col .fact) k (courseIn col .step p))) place-cell
+
+    place-permitted : permits (cellsIn col) (col .fact) k (courseIn col .step p) ≡ true
+    unfolding permits cellsIn
+    place-permitted =
+        rw (lt-ltb (col .fact) (suc (col .fact)) (omega arith), lt-ltb (courseIn col .step p) (col .actions) place-action) place-repairable
+
+  -- the place of each of the conflict's repairs
+  place-of : (code : ℕ) → code < perFact → inChoice q code ≡ true → (p : ℕ) × (lowPlace i j (codeKind code) ≤ p)
+      × (p < highPlace col i j (codeKind code)) × (courseIn col .step p ≡ codeAction code)
+  unfolding inChoice
+  place-of code h hq = parts (codeKind code) (omega arith) .only (codeAction code) hq
+
+  conflict-fresh : (code : ℕ) → code < perFact → inChoice q code ≡ true → inChoice s code ≡ false
+  unfolding inChoice
+  conflict-fresh code h hq =
+      let w = place-of code h hq in
+      subst (λ (a : ℕ). has (maskIn (codeKind code) s) a ≡ false) (w .3) (place-fresh (codeKind code) (w .0) (omega arith) (w .1) (w .2))
+
+  conflict-allowed : Allowed col q
+  conflict-allowed code h hq =
+      let w = place-of code h hq in
+      let number : codeNumber (col .fact) code ≡ numberOf (col .fact) (codeKind code) (codeAction code) = omega arith in
+      rw (number, permitted-number (cellsIn col) (col .fact) (codeKind code) (codeAction code) (omega arith) (omega arith))
+      (subst (λ (a : ℕ). permits (cellsIn col) (col .fact) (codeKind code) a ≡ true) (w .3)
+      (place-permitted (codeKind code) (w .0) (omega arith) (w .1) (w .2)))
+
+  -- with a set of repairs that has none of the conflict's, the fact is missing at j as well
+  module _ (R : ℕ → Bool) (none : (code : ℕ) → code < perFact → (inChoice q code && R (codeNumber (col .fact) code)) ≡ false) where
+    module _ (k p : ℕ) (hk : k < kinds) (low : lowPlace i j k ≤ p) (high : p < highPlace col i j k) where
+      unrepaired : chosen R (col .fact) k (courseIn col .step p) ≡ false
+      unfolding chosen
+      unrepaired =
+          let a = courseIn col .step p in
+          let fits : a < maxActions = place-low k p hk low high in
+          let listed = inChoice-has q k a fits ∙ parts k hk .each p low high in
+          let number : numberOf (col .fact) k a ≡ codeNumber (col .fact) (perKind * k + a) = omega arith in
+          is-false _ (λ h.
+          false≢true
+          (sym (none (perKind * k + a) (omega arith))
+          ∙ and-both (inChoice q (perKind * k + a)) _ listed (ap R (sym number) ∙ and-right (ltb a maxActions) (R (numberOf (col .fact) k a)) h)))
+
+      under : repairable (repaired (cellsIn col) R) (col .fact) k (courseIn col .step p) ≡ true
+      under =
+          repaired-repairable (cellsIn col) R (col .fact) k (courseIn col .step p) hk
+          ∙ and-both _ _ (place-repairable k p hk low high) (ap not unrepaired)
+
+    not-added : (m : ℕ) → i - 1 ≤ m → m < j → repaired (cellsIn col) R .adds (courseIn col .step m) (col .fact) ≡ false
+    not-added m low high = not-true _ (under addEffect m (omega arith) low high)
+
+    absent-first : (m : ℕ) → i ≡ m → stateAt (repaired (cellsIn col) R) (courseIn col) m (col .fact) ≡ false
+    absent-first zero e =
+        stateAt-first (repaired (cellsIn col) R) (courseIn col) (col .fact)
+        ∙ sym (stateAt-first (cellsWith col s) (courseIn col) (col .fact))
+        ∙ absent-since col s j i missing back 0 (omega arith) (omega arith)
+    absent-first (suc m) e =
+        subst (λ (n : ℕ). stateAt (repaired (cellsIn col) R) (courseIn col) n (col .fact) ≡ false) (add-one m)
+        (next-deleted (repaired (cellsIn col) R) (courseIn col) (col .fact) m
+        (under dropDelete m (omega arith) (omega arith) (omega arith)) (not-added m (omega arith) (omega (arith, back .within))))
+
+    absent-there : stateAt (repaired (cellsIn col) R) (courseIn col) j (col .fact) ≡ false
+    absent-there =
+        carries (repaired (cellsIn col) R) (courseIn col) (col .fact) false i j (back .within) (absent-first i refl)
+        (λ k low high p. next-absent (repaired (cellsIn col) R) (courseIn col) (col .fact) k p (not-added k (omega arith) high))
+
+    not-right : Right (repaired (cellsIn col) R) (courseIn col) (col .fact) → NeededAt col s j → ⊥
+    unfolding courseIn
+    not-right right (by-step h n) =
+        true≢false (sym (right .needed j h (under dropNeed j (omega arith) (omega arith) (omega arith))) ∙ absent-there)
+    not-right right (by-goal e g) =
+        true≢false
+        (sym (right .wanted g) ∙ subst (λ (n : ℕ). stateAt (repaired (cellsIn col) R) (courseIn col) n (col .fact) ≡ false) e absent-there)
+
+  -- Every set of repairs that keeps the fact right has one of the conflict's, whether or not it contains the candidate.
+  pub conflict-meets : (R : ℕ → Bool) → Right (repaired (cellsIn col) R) (courseIn col) (col .fact)
+      → (code : ℕ) × (code < perFact) × (inChoice q code ≡ true) × (R (codeNumber (col .fact) code) ≡ true)
+  conflict-meets R right = pick (find-code (λ code. inChoice q code && R (codeNumber (col .fact) code)) perFact)
+    where
+      pick : ((code : ℕ) × (code < perFact) × ((inChoice q code && R (codeNumber (col .fact) code)) ≡ true))
+          ⊎ ((code : ℕ) → code < perFact → (inChoice q code && R (codeNumber (col .fact) code)) ≡ false)
+          → (code : ℕ) × (code < perFact) × (inChoice q code ≡ true) × (R (codeNumber (col .fact) code) ≡ true)
+      pick (inl w) = (w .0, w .1, and-left _ _ (w .2), and-right (inChoice q (w .0)) _ (w .2))
+      pick (inr none) = absurd (not-right R none right (missing .needed))
+
+  is-conflict : Conflicts col s q
+  is-conflict = record { meets = λ R right _. conflict-meets R right; fresh = conflict-fresh; allowed = conflict-allowed }
+
+-- The sets that the code gathers make a conflict.
+module _ (col : Column) (s : Choice) (j i place end d a n : ℕ) (formed : ColumnFormed col) (missing : Missing col s j)
+    (back : LastDelete col s j i) (first : place ≡ i - 1) (last : end ≡ min (j + 1) (col .count)) where
+  pub gathered-conflict : ActionsOf col place i d → ActionsOf col place j a → ActionsOf col j end n
+      → Conflicts col s (record { deletes = d; adds = a; needs = n })
+  gathered-conflict hd ha hn = is-conflict col s j i formed missing back (record { deletes = d; adds = a; needs = n }) parts
+    where
+      parts : (k : ℕ) → k < kinds → ActionsOf col (lowPlace i j k) (highPlace col i j k) (byKind k d a n)
+      parts zero h = subst (λ (p : ℕ). ActionsOf col p i d) first hd
+      parts (suc zero) h = subst (λ (p : ℕ). ActionsOf col p j a) first ha
+      parts (suc (suc zero)) h = subst (λ (p : ℕ). ActionsOf col j p n) last hn
+      parts (suc (suc (suc k))) h = absurd (omega arith)

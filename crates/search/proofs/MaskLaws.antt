@@ -1,0 +1,225 @@
+-- Laws of a choice as three masks of actions: its size as counts, its next code and the first difference of two as
+-- lowest places.
+use mathlib.Core.Bool.{Bool, true, false, cond, not, _&&_, _||_, false≢true, and-true, and-false}
+use mathlib.Core.Logic.{_⊎_, inl, inr}
+use mathlib.Core.Path.{_≡_, refl, sym, ap, ap₂, _∙_}
+use Prim.Native.Nat.{ℕ, zero, suc, _+_, _*_, _-_, _/_, _%_, _^_, _<_, _≤_, min}
+use native.Mathlib.Decide.{decLt}
+use native.Mathlib.Omega.{arith}
+use borrow.Author.Tests.{lt-ltb, le-ltb, ltb-false, not-true}
+use lib.Dec.{ltb}
+use lib.ListN.{length}
+use Rattle.facts.specs.Sets.{width, bit, has, joined, shared, removed, below, count, lowest, sumBits}
+use Rattle.facts.proofs.Counting.{bit-has, count-sum, lowest-has, lowest-first, lowest-empty}
+use Rattle.facts.proofs.Digits.{bit-lt}
+use Rattle.facts.proofs.Laws.{has-joined, has-shared, has-removed, has-below, joined-lt, shared-lt, removed-lt}
+use Rattle.table.specs.Lists.{gather}
+use Rattle.table.specs.Repairs.{dropDelete, addEffect, dropNeed}
+use Rattle.table.proofs.FlagLaws.{and-left, and-right}
+use Rattle.table.specs.Sizes.{perFact, perKind, kinds}
+use Rattle.search.specs.declared.Choice.{Choice}
+use Rattle.search.specs.Choices.{codeKind, codeAction, inChoice, listOf}
+use Rattle.search.specs.Trying.{maskIn, NextAction, NextIn, FirstUnshared, FirstDifference}
+use Rattle.search.proofs.ChoiceLaws.{weight, codes, codes-length}
+
+-- The repair of a code, in its kind's mask.
+in-kind : (s : Choice) (k c : ℕ) → perKind * k ≤ c → c < perKind * k + perKind → inChoice s c ≡ has (maskIn k s) (c - perKind * k)
+unfolding inChoice
+in-kind s k c low high =
+    let kind : codeKind c ≡ k = omega arith in
+    let action : codeAction c ≡ c - perKind * k = omega arith in
+    ap (λ j. has (maskIn j s) (codeAction c)) kind ∙ ap (λ a. has (maskIn k s) a) action
+
+-- ---- the size
+
+sumBits-next : (n m : ℕ) → sumBits (suc n) m ≡ sumBits n m + bit m n
+unfolding sumBits
+sumBits-next n m = refl
+
+pub sumBits-le : (n m : ℕ) → sumBits n m ≤ n
+unfolding sumBits
+sumBits-le zero m = omega arith
+sumBits-le (suc n) m = omega (arith, sumBits-le n m, bit-lt m n)
+
+-- A mask cut off at k has the bits below k, and no others.
+cut-below : (k m n : ℕ) → k ≤ width → n < k → bit (shared m (below k)) n ≡ bit m n
+cut-below k m n h low =
+    bit-has (shared m (below k)) n ∙
+    ap weight (has-shared m (below k) n ∙
+    ap (λ b. has m n && b) (has-below k n ∙ lt-ltb n (min k width) (omega arith)) ∙ and-true (has m n)) ∙
+    sym (bit-has m n)
+
+cut-above : (k m n : ℕ) → k ≤ n → bit (shared m (below k)) n ≡ 0
+cut-above k m n high =
+    bit-has (shared m (below k)) n ∙
+    ap weight (has-shared m (below k) n ∙
+    ap (λ b. has m n && b) (has-below k n ∙ le-ltb n (min k width) (omega arith)) ∙ and-false (has m n))
+
+cut-bits : (k m : ℕ) → k ≤ width → (n : ℕ) → sumBits n (shared m (below k)) ≡ sumBits (min n k) m
+unfolding sumBits
+cut-bits k m h zero = let e : 0 ≡ min 0 k = omega arith in ap (λ n. sumBits n m) e
+cut-bits k m h (suc n) = pick (decLt n k) (cut-bits k m h n)
+  where
+    pick : Dec (n < k) → sumBits n (shared m (below k)) ≡ sumBits (min n k) m
+        → sumBits (suc n) (shared m (below k)) ≡ sumBits (min (suc n) k) m
+    pick (yes low) rest =
+        let e : min n k ≡ n = omega arith in
+        let next : suc n ≡ min (suc n) k = omega arith in
+        let before : sumBits (min n k) m ≡ sumBits n m = ap (λ i. sumBits i m) e in
+        let sum : sumBits (suc n) (shared m (below k)) ≡ sumBits (suc n) m = omega (arith, rest, before, cut-below k m n h low) in
+        sum ∙ ap (λ i. sumBits i m) next
+    pick (no high) rest =
+        let e : min n k ≡ min (suc n) k = omega arith in
+        let sum : sumBits (suc n) (shared m (below k)) ≡ sumBits n (shared m (below k)) = omega (arith, cut-above k m n (omega arith)) in
+        sum ∙ rest ∙ ap (λ i. sumBits i m) e
+
+pub count-actions : (m : ℕ) → m < 2 ^ width → count (shared m (below perKind)) ≡ sumBits perKind m
+count-actions m h = count-sum (shared m (below perKind)) (shared-lt width m (below perKind) h) ∙ cut-bits perKind m (omega arith) width
+
+-- The codes of one kind make the list longer by the actions in its mask.
+kind-length : (s : Choice) (f k n : ℕ) → n ≤ perKind
+    → length (codes (inChoice s) f (perKind * k + n)) ≡ length (codes (inChoice s) f (perKind * k)) + sumBits n (maskIn k s)
+unfolding sumBits
+kind-length s f k zero h =
+    let e : perKind * k + 0 ≡ perKind * k = omega arith in
+    let same : length (codes (inChoice s) f (perKind * k + 0)) ≡ length (codes (inChoice s) f (perKind * k)) =
+    ap (λ i. length (codes (inChoice s) f i)) e in
+    omega (arith, same)
+kind-length s f k (suc n) h =
+    let e : perKind * k + suc n ≡ suc (perKind * k + n) = omega arith in
+    let back : perKind * k + n - perKind * k ≡ n = omega arith in
+    let more : weight (inChoice s (perKind * k + n)) ≡ bit (maskIn k s) n =
+    ap weight (in-kind s k (perKind * k + n) (omega arith) (omega arith) ∙ ap (λ a. has (maskIn k s) a) back) ∙
+    sym (bit-has (maskIn k s) n) in
+    let next : length (codes (inChoice s) f (perKind * k + suc n)) ≡ length (codes (inChoice s) f (suc (perKind * k + n))) =
+    ap (λ i. length (codes (inChoice s) f i)) e in
+    omega (arith, next, more, codes-length (inChoice s) f (perKind * k + n), kind-length s f k n (omega arith))
+
+pub choice-length : (f : ℕ) (s : Choice)
+    → length (listOf f s) ≡ sumBits perKind (s .deletes) + sumBits perKind (s .adds) + sumBits perKind (s .needs)
+unfolding listOf codes gather
+choice-length f s =
+    omega (arith, kind-length s f dropDelete perKind (omega arith), kind-length s f addEffect perKind (omega arith), kind-length s f dropNeed perKind (omega arith))
+
+-- ---- the next code
+
+-- The lowest place of a mask that has one.
+lowest-in : (m : ℕ) → m < 2 ^ width → lowest m < width → has m (lowest m) ≡ true
+lowest-in m h low = pick (decLt 0 m)
+  where
+    pick : Dec (0 < m) → has m (lowest m) ≡ true
+    pick (yes p) = lowest-has m p h
+    pick (no p) =
+        let none : m ≡ 0 = omega arith in
+        absurd (omega (arith, ap lowest none, lowest-empty))
+
+pub next-lowest : (m skip : ℕ) → m < 2 ^ width → NextAction m skip (lowest (removed m (below skip)))
+next-lowest m skip h = record { absent = absent; present = λ low. and-left (has m (lowest rest)) (not (has (below skip) (lowest rest))) (here low); after = after }
+  where
+    rest : ℕ
+    rest = removed m (below skip)
+
+    here : lowest rest < width → (has m (lowest rest) && not (has (below skip) (lowest rest))) ≡ true
+    here low = sym (has-removed m (below skip) (lowest rest)) ∙ lowest-in rest (removed-lt width m (below skip) h) low
+
+    absent : (a : ℕ) → a < lowest rest → skip ≤ a → has m a ≡ false
+    absent a low past =
+        sym (and-true (has m a)) ∙
+        ap (λ b. has m a && not b) (sym (has-below skip a ∙ le-ltb a (min skip width) (omega arith))) ∙
+        sym (has-removed m (below skip) a) ∙ lowest-first rest a low
+
+    after : lowest rest < width → skip ≤ lowest rest
+    after low =
+        let out : ltb (lowest rest) (min skip width) ≡ false =
+        sym (has-below skip (lowest rest)) ∙ not-true (has (below skip) (lowest rest)) (and-right (has m (lowest rest)) (not (has (below skip) (lowest rest))) (here low)) in
+        omega (arith, ltb-false (lowest rest) (min skip width) out)
+
+-- No code from `from` on and before `end` is in the set.
+abbrev pub NoneIn : Choice → ℕ → ℕ → Type 0
+NoneIn s from end = (c : ℕ) → c < end → from ≤ c → inChoice s c ≡ false
+
+module _ (s : Choice) (k from skip next : ℕ) (kind : k < kinds) (offset : skip ≡ from - perKind * k) (n : NextAction (maskIn k s) skip next) where
+  kind-none : (c : ℕ) → perKind * k ≤ c → c < perKind * k + perKind → c < perKind * k + next → from ≤ c → inChoice s c ≡ false
+  kind-none c low high before past = in-kind s k c low high ∙ n .absent (c - perKind * k) (omega arith) (omega arith)
+
+  pub next-none : NoneIn s from (perKind * k) → perKind ≤ next → NoneIn s from (perKind * k + perKind)
+  next-none before far c high past = pick (decLt c (perKind * k))
+    where
+      pick : Dec (c < perKind * k) → inChoice s c ≡ false
+      pick (yes low) = before c low past
+      pick (no low) = kind-none c (omega arith) high (omega arith) past
+
+  pub next-here : (code : ℕ) → code ≡ perKind * k + next → NoneIn s from (perKind * k) → next < perKind → NextIn s from code
+  next-here code e before near = record {
+    after = omega (arith, n .after (omega arith));
+    within = omega arith;
+    absent = λ c high past. pick c high past (decLt c (perKind * k));
+    present = λ h.
+        let back : code - perKind * k ≡ next = omega arith in
+        in-kind s k code (omega arith) (omega arith) ∙ ap (λ a. has (maskIn k s) a) back ∙ n .present (omega arith);
+  }
+    where
+      pick : (c : ℕ) → c < code → from ≤ c → Dec (c < perKind * k) → inChoice s c ≡ false
+      pick c high past (yes low) = before c low past
+      pick c high past (no low) = kind-none c (omega arith) (omega arith) (omega arith) past
+
+-- ---- the first difference
+
+unshared-same : (a b : Bool) → (a && not b || b && not a) ≡ false → a ≡ b
+unshared-same true true h = refl
+unshared-same true false h = h
+unshared-same false true h = sym h
+unshared-same false false h = refl
+
+unshared-differs : (a b : Bool) → (a && not b || b && not a) ≡ true → a ≡ b → ⊥
+unshared-differs true true h e = false≢true h
+unshared-differs true false h e = false≢true (sym e)
+unshared-differs false true h e = false≢true e
+unshared-differs false false h e = false≢true h
+
+pub unshared-lowest : (a b : ℕ) → a < 2 ^ width → b < 2 ^ width → FirstUnshared a b (lowest (joined (removed a b) (removed b a)))
+unshared-lowest a b ha hb = record {
+  same = λ g low. unshared-same (has a g) (has b g) (sym (parts g) ∙ lowest-first either g low);
+  differs = λ low. unshared-differs (has a (lowest either)) (has b (lowest either)) (sym (parts (lowest either)) ∙ lowest-in either fits low);
+}
+  where
+    either : ℕ
+    either = joined (removed a b) (removed b a)
+
+    fits : joined (removed a b) (removed b a) < 2 ^ width
+    fits = joined-lt width (removed a b) (removed b a) (removed-lt width a b ha) (removed-lt width b a hb)
+
+    parts : (g : ℕ) → has (joined (removed a b) (removed b a)) g ≡ (has a g && not (has b g) || has b g && not (has a g))
+    parts g = has-joined (removed a b) (removed b a) g ∙ ap₂ (λ x y. x || y) (has-removed a b g) (has-removed b a g)
+
+-- The sets agree on every code before `end`.
+abbrev pub SameBelow : Choice → Choice → ℕ → Type 0
+SameBelow a b end = (c : ℕ) → c < end → inChoice a c ≡ inChoice b c
+
+module _ (a b : Choice) (k action : ℕ) (kind : k < kinds) (d : FirstUnshared (maskIn k a) (maskIn k b) action) where
+  kind-same : (c : ℕ) → perKind * k ≤ c → c < perKind * k + perKind → c < perKind * k + action → inChoice a c ≡ inChoice b c
+  kind-same c low high before = in-kind a k c low high ∙ d .same (c - perKind * k) (omega arith) ∙ sym (in-kind b k c low high)
+
+  pub same-through : SameBelow a b (perKind * k) → perKind ≤ action → SameBelow a b (perKind * k + perKind)
+  same-through before far c high = pick (decLt c (perKind * k))
+    where
+      pick : Dec (c < perKind * k) → inChoice a c ≡ inChoice b c
+      pick (yes low) = before c low
+      pick (no low) = kind-same c (omega arith) high (omega arith)
+
+  pub differs-here : (code : ℕ) → code ≡ perKind * k + action → SameBelow a b (perKind * k) → action < perKind
+      → FirstDifference a b code
+  differs-here code e before near = record {
+    within = omega arith;
+    same = λ c high. pick c high (decLt c (perKind * k));
+    differs = λ h same. d .differs (omega arith) (sym (at a) ∙ same ∙ at b);
+  }
+    where
+      at : (s : Choice) → inChoice s code ≡ has (maskIn k s) action
+      at s =
+          let back : code - perKind * k ≡ action = omega arith in
+          in-kind s k code (omega arith) (omega arith) ∙ ap (λ n. has (maskIn k s) n) back
+
+      pick : (c : ℕ) → c < code → Dec (c < perKind * k) → inChoice a c ≡ inChoice b c
+      pick c high (yes low) = before c low
+      pick c high (no low) = kind-same c (omega arith) (omega arith) (omega arith)

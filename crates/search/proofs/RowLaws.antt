@@ -1,0 +1,136 @@
+-- Laws of a row: writing a list into it repair by repair, and which row is right. Assumes nothing.
+use mathlib.Core.Bool.{Bool, true, false, cond, false≢true}
+use mathlib.Core.List.{List, [], _∷_, _++_, append-nil}
+use mathlib.Core.Path.{_≡_, refl, sym, ap, _∙_, subst}
+use Prim.Native.Nat.{ℕ, zero, suc, _+_, _-_, _<_, _≤_}
+use native.Mathlib.Numerals.{add-one}
+use native.Mathlib.Omega.{arith}
+use lib.ListN.{length, getD, set, replicate, length-append}
+use lib.Seq.{set-append-seam, append-snoc}
+use Rattle.table.specs.Answer.{Verdict, found, over, hopeless, Within, First}
+use Rattle.table.specs.Lists.{gather, piece}
+use Rattle.table.specs.Sizes.{maxRow, perFact, unused}
+use Rattle.table.specs.Tasks.{WellFormed, KeepsFor}
+use Rattle.table.specs.declared.Task.{Task}
+use Rattle.table.proofs.AnswerLaws.{first-same}
+use Rattle.table.proofs.GatherLaws.{gather-part, gather-step}
+use Rattle.table.proofs.JoinLaws.{keepsFor-outside}
+use Rattle.search.specs.Choices.{inChoice, listOf, codeNumber}
+use Rattle.search.specs.Columns.{KeepsIn}
+use Rattle.search.specs.Gaps.{Gap}
+use Rattle.search.specs.Rows.{rowOf, rowWith, rowOver, rowHopeless, RightRow}
+use Rattle.search.specs.Searching.{Shortest}
+use Rattle.search.specs.Views.{Shows, Fullest}
+use Rattle.search.specs.declared.Choice.{Choice}
+use Rattle.search.specs.declared.Column.{Column}
+use Rattle.search.proofs.ChoiceLaws.{codes, codes-length, weight}
+use Rattle.search.proofs.SearchLaws.{gap-right, gap-missing, missing-wrong}
+use Rattle.search.proofs.ViewLaws.{keeps-in, in-keeps, fullest-right, fullest-keeps}
+
+-- ---- writing a list repair by repair
+
+-- A row with room takes one repair more at its end.
+pub row-grows : (l : List ℕ) (n : ℕ) → length l < maxRow → rowWith (rowOf (found l)) n ≡ rowOf (found (l ++ (n ∷ [])))
+unfolding rowWith rowOf
+row-grows l n h =
+    let rest : maxRow - length l ≡ suc (maxRow - suc (length l)) = omega arith in
+    let longer : length (l ++ (n ∷ [])) ≡ suc (length l) = length-append l (n ∷ []) ∙ add-one (length l) in
+    rw (add-one (length l), longer, rest, set-append-seam l unused (replicate (maxRow - suc (length l)) unused) n, append-snoc l n (replicate (maxRow - suc (length l)) unused))
+
+module _ (f : ℕ) (s : Choice) where
+  -- The row of the chosen codes below i.
+  abbrev pub rowBelow : ℕ → List ℕ
+  rowBelow i = rowOf (found (codes (inChoice s) f i))
+
+  pub below-none : (row : List ℕ) → row ≡ (0 ∷ replicate maxRow unused) → row ≡ rowBelow 0
+  unfolding rowOf codes gather
+  below-none row e = e
+
+  pub below-first : (i : ℕ) (row : List ℕ) → row ≡ rowBelow i → getD row 0 0 ≡ length (codes (inChoice s) f i)
+  unfolding rowOf
+  below-first i row e = rw e
+
+  pub below-fits : (i : ℕ) (row : List ℕ) → length (listOf f s) ≤ maxRow → i < perFact → row ≡ rowBelow i → inChoice s i ≡ true
+      → getD row 0 0 < maxRow
+  unfolding listOf codes
+  below-fits i row short h e chosen =
+      let one : weight (inChoice s i) ≡ 1 = ap weight chosen in
+      let all : length (codes (inChoice s) f perFact) ≤ maxRow = short in
+      omega (arith, below-first i row e, codes-length (inChoice s) f i, gather-part (λ code. piece (inChoice s code) (codeNumber f code ∷ [])) (suc i) perFact (omega arith))
+
+  pub below-more : (i : ℕ) (row next : List ℕ) → row ≡ rowBelow i → (inChoice s i ≡ true → getD row 0 0 < maxRow)
+      → next ≡ cond (inChoice s i) (rowWith row (codeNumber f i)) row → next ≡ rowBelow (i + 1)
+  unfolding codes
+  below-more i row next e fits made =
+      go (inChoice s i) refl ∙
+      ap (λ (l : List ℕ). rowOf (found l)) (sym (gather-step (λ code. piece (inChoice s code) (codeNumber f code ∷ [])) i))
+    where
+      go : (b : Bool) → inChoice s i ≡ b → next ≡ rowOf (found (codes (inChoice s) f i ++ piece (inChoice s i) (codeNumber f i ∷ [])))
+      go true chosen =
+          let room : length (codes (inChoice s) f i) < maxRow = omega (arith, below-first i row e, fits chosen) in
+          made ∙ rw (chosen, e) (row-grows (codes (inChoice s) f i) (codeNumber f i) room)
+      go false left = made ∙ rw (left, e, append-nil)
+
+  pub below-end : (i : ℕ) (row : List ℕ) → i ≡ perFact → row ≡ rowBelow i → row ≡ rowOf (found (listOf f s))
+  unfolding listOf codes
+  below-end i row all e = e ∙ ap (λ (n : ℕ). rowOf (found (codes (inChoice s) f n))) all
+
+-- ---- which row is right
+
+-- A fact from F up is right as it stands.
+pub outside-row : (t : Task) → WellFormed t → (f : ℕ) (row : List ℕ) → t .table .facts ≤ f → row ≡ (0 ∷ replicate maxRow unused) → RightRow t f row
+unfolding rowOf
+outside-row t well f row h e = record { verdict = found []; within = (keepsFor-outside t well f h, omega arith); shown = e }
+
+-- A row has room for what the search found.
+pub found-short : (col : Column) (f : ℕ) (any : Bool) (best : Choice) → col .fact ≡ f → any ≡ true → Shortest col any best → length (listOf f best) ≤ maxRow
+found-short col f false best own some short = absurd (false≢true some)
+found-short col f true best own some short = subst (λ (g : ℕ). length (listOf g best) ≤ maxRow) own (short .1)
+
+module _ (t : Task) (f : ℕ) (row : List ℕ) (col : Column) (own : col .fact ≡ f) (shows : Shows t col) (inside : f < t .table .facts) where
+  here : col .fact < t .table .facts
+  here = omega (arith, own, inside)
+
+  -- What is right for the column's fact is right for f, which it is.
+  for-fact : RightRow t (col .fact) row → RightRow t f row
+  for-fact right = subst (λ (g : ℕ). RightRow t g row) own right
+
+  pub found-row : (any : Bool) (best : Choice) → any ≡ true → Shortest col any best → row ≡ rowOf (found (listOf f best)) → RightRow t f row
+  found-row false best some short e = absurd (false≢true some)
+  found-row true best some short e =
+      for-fact record {
+        verdict = found (listOf (col .fact) best);
+        within = (
+          first-same (KeepsIn col) (KeepsFor t (col .fact)) (in-keeps t col shows here) (keeps-in t col shows here) (listOf (col .fact) best) (short .0),
+          short .1,
+        );
+        shown = e ∙ ap (λ (g : ℕ). rowOf (found (listOf g best))) (sym own);
+      }
+
+  pub over-row : (any : Bool) (best full : Choice) (j : ℕ) → any ≡ false → Shortest col any best → Fullest col full → Gap col full j
+      → col .count < j → row ≡ (rowOver ∷ replicate maxRow unused) → RightRow t f row
+  unfolding rowOf
+  over-row true best full j nothing short most gap past e = absurd (false≢true (sym nothing))
+  over-row false best full j nothing short most gap past e =
+      for-fact record {
+        verdict = over;
+        within = (
+          (
+            listOf (col .fact) full,
+            in-keeps t col shows here (listOf (col .fact) full) (fullest-keeps col full most (gap-right col full j gap past)),
+          ),
+          λ m keeps. short m (keeps-in t col shows here m keeps),
+        );
+        shown = e;
+      }
+
+  pub hopeless-row : (full : Choice) (j : ℕ) → Fullest col full → Gap col full j → j ≤ col .count → row ≡ (rowHopeless ∷ replicate maxRow unused)
+      → RightRow t f row
+  unfolding rowOf
+  hopeless-row full j most gap h e =
+      for-fact record {
+        verdict = hopeless;
+        within = λ m keeps.
+            missing-wrong col full j (gap-missing col full j gap h) (fullest-right col full most m (keeps-in t col shows here m keeps));
+        shown = e;
+      }

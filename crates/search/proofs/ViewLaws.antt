@@ -1,0 +1,206 @@
+-- Laws of a task's column: gathering its masks, its fullest choice, and that a list keeps the fact right in the task exactly if it
+-- does so in the column. Assumes nothing.
+use mathlib.Core.Bool.{Bool, true, false, not, _&&_, _||_, cond, or-false, or-true}
+use mathlib.Core.List.{List}
+use mathlib.Core.Logic.{_⊎_, inl, inr, ⊎-elim}
+use mathlib.Core.Path.{_≡_, refl, sym, ap, _∙_, subst}
+use Prim.Native.Nat.{ℕ, suc, _+_, _%_, _<_, _≤_, min}
+use native.Mathlib.Omega.{arith}
+use native.Mathlib.Numerals.{add-one}
+use lib.Dec.{eqb, ltb}
+use lib.ListN.{length, getD, List·getD-eq-default}
+use borrow.Author.Tests.{lt-ltb, le-ltb, ltb-true, eq-eqb, ne-eqb}
+use Rattle.facts.specs.Sets.{has, joined, shared, removed, below, only, width}
+use Rattle.facts.proofs.Laws.{has-empty, has-with, has-shared, has-removed, has-below}
+use Rattle.table.specs.Repairs.{byKind, dropDelete, addEffect, factOf, kindOf, actionOf, permits, permitted, repaired}
+use Rattle.table.specs.Sizes.{maxActions, perFact}
+use Rattle.table.specs.Answer.{Permitted, Keeps}
+use Rattle.table.specs.Order.{isIn}
+use Rattle.table.specs.Strips.{Cells, Course, Right}
+use Rattle.table.specs.Tasks.{WellFormed, cellsOf, courseOf, KeepsFor}
+use Rattle.table.specs.declared.Task.{Task}
+use Rattle.table.proofs.OrderLaws.{compared}
+use Rattle.table.proofs.RepairLaws.{right-more, right-agree}
+use Rattle.table.proofs.RunLaws.{SameAt, SameCourseAt, sameAt-sym, sameCourse-sym, right-same}
+use Rattle.table.proofs.RepairNumbers.{permitted-permits}
+use Rattle.search.proofs.SearchLaws.{right-keeps}
+use Rattle.search.specs.Choices.{inChoice, numbersIn, listOf, codeNumber, codeKind, codeAction}
+use Rattle.search.specs.Columns.{cellsIn, courseIn, KeepsIn, ColumnFormed}
+use Rattle.search.specs.Searching.{cellsWith}
+use Rattle.search.specs.Views.{Gathers, Shows, Fullest}
+use Rattle.search.specs.declared.Column.{Column}
+use Rattle.search.specs.declared.Choice.{Choice}
+
+-- ---- gathering a mask of actions
+
+-- The actions below i whose set has fact f.
+abbrev pub GathersBelow : (ℕ → ℕ) → ℕ → ℕ → ℕ → Type 0
+GathersBelow sets f i m = (a : ℕ) → has m a ≡ (ltb a i && has (sets a) f)
+
+module _ (sets : ℕ → ℕ) (f : ℕ) where
+  pub gathers-none : GathersBelow sets f 0 0
+  gathers-none a = rw (has-empty a, le-ltb a 0 (omega arith))
+
+  -- action a, where action i is put in if its set has f
+  below-i : (m i a : ℕ) (wanted : Bool) → i < width → GathersBelow sets f i m → a < i
+      → has (cond wanted (joined m (only i)) m) a ≡ (ltb a (i + 1) && has (sets a) f)
+  below-i m i a true h g l =
+      rw (has-with m i a h, ne-eqb a i (λ e. omega arith), g a, lt-ltb a i l, lt-ltb a (i + 1) (omega arith), or-false)
+  below-i m i a false h g l = rw (g a, lt-ltb a i l, lt-ltb a (i + 1) (omega arith))
+
+  at-i : (m i : ℕ) (wanted : Bool) → i < width → GathersBelow sets f i m → wanted ≡ has (sets i) f
+      → has (cond wanted (joined m (only i)) m) i ≡ (ltb i (i + 1) && has (sets i) f)
+  at-i m i true h g e = rw (has-with m i i h, eq-eqb i i refl, or-true, lt-ltb i (i + 1) (omega arith)) e
+  at-i m i false h g e = rw (g i, le-ltb i i (omega arith), lt-ltb i (i + 1) (omega arith)) e
+
+  above-i : (m i a : ℕ) (wanted : Bool) → i < width → GathersBelow sets f i m → i < a
+      → has (cond wanted (joined m (only i)) m) a ≡ (ltb a (i + 1) && has (sets a) f)
+  above-i m i a true h g l =
+      rw (has-with m i a h, ne-eqb a i (λ e. omega arith), g a, le-ltb a i (omega arith), le-ltb a (i + 1) (omega arith))
+  above-i m i a false h g l = rw (g a, le-ltb a i (omega arith), le-ltb a (i + 1) (omega arith))
+
+  pub gathers-more : (m i next : ℕ) (wanted : Bool) → i < width → GathersBelow sets f i m → wanted ≡ has (sets i) f
+      → next ≡ cond wanted (joined m (only i)) m → GathersBelow sets f (i + 1) next
+  gathers-more m i next wanted h g e made a =
+      ap (λ (n : ℕ). has n a) made ∙ ⊎-elim (below-i m i a wanted h g)
+      (⊎-elim
+      (λ same. subst (λ (b : ℕ). has (cond wanted (joined m (only i)) m) b ≡ (ltb b (i + 1) && has (sets b) f)) (sym same) (at-i m i wanted h g e))
+      (above-i m i a wanted h g))
+      (compared a i)
+
+-- A row of sets is empty past its end.
+pub gathers-end : (sets : List ℕ) (f i m : ℕ) → length sets ≡ maxActions → i ≡ maxActions → GathersBelow (λ a. getD sets a 0) f i m
+    → Gathers (λ a. getD sets a 0) f m
+gathers-end sets f i m e all below a = ⊎-elim inside outside (below-or-not a maxActions)
+  where
+    below-or-not : (x y : ℕ) → (x < y) ⊎ (y ≤ x)
+    below-or-not x y = ⊎-elim inl (λ w. inr (⊎-elim (λ e. omega arith) (λ l. omega arith) w)) (compared x y)
+
+    g : GathersBelow (λ b. getD sets b 0) f maxActions m
+    g = subst (λ (n : ℕ). GathersBelow (λ b. getD sets b 0) f n m) all below
+
+    inside : a < maxActions → has m a ≡ has (getD sets a 0) f
+    inside l = g a ∙ rw (lt-ltb a maxActions l)
+
+    outside : maxActions ≤ a → has m a ≡ has (getD sets a 0) f
+    outside l =
+        let past : length sets ≤ a = omega arith in
+        g a ∙ rw (le-ltb a maxActions l, List·getD-eq-default sets 0 past, has-empty f)
+
+-- ---- the fullest choice
+
+-- A mask picked by its kind, from what each of the three has.
+has-by-kind : (k d a n x : ℕ) (y p q r : Bool) → has d x ≡ (y && p) → has a x ≡ (y && q) → has n x ≡ (y && r)
+    → has (byKind k d a n) x ≡ (y && byKind k p q r)
+has-by-kind k d a n x y p q r hd ha hn = go (eqb k dropDelete) (eqb k addEffect)
+  where
+    go : (first second : Bool) → has (cond first d (cond second a n)) x ≡ (y && cond first p (cond second q r))
+    go true second = hd
+    go false true = ha
+    go false false = hn
+
+-- A code of fact f, as the parts of its number.
+code-permitted : (c : Cells) (f code : ℕ) → code < perFact → permitted c (codeNumber f code) ≡ permits c f (codeKind code) (codeAction code)
+code-permitted c f code h =
+    let fact : factOf (codeNumber f code) ≡ f = omega arith in
+    let kind : kindOf (codeNumber f code) ≡ codeKind code = omega arith in
+    let action : actionOf (codeNumber f code) ≡ codeAction code = omega arith in
+    permitted-permits c (codeNumber f code) ∙ rw (fact, kind, action)
+
+-- Exactly the permitted repairs: dropped deletes and needs that are there, and effects that are not.
+pub fullest-is : (col : Column) → ColumnFormed col → (s : Choice) → s .deletes ≡ shared (below (col .actions)) (col .deletes)
+    → s .adds ≡ removed (below (col .actions)) (col .adds) → s .needs ≡ shared (below (col .actions)) (col .needs) → Fullest col s
+unfolding inChoice permits cellsIn
+fullest-is col formed s d a n code h =
+    let x = codeAction code in
+    let all : has (below (col .actions)) x ≡ ltb x (col .actions) =
+    has-below (col .actions) x ∙ ap (ltb x) (least (formed .actions-high)) in
+    rw (code-permitted (cellsIn col) (col .fact) code h, lt-ltb (col .fact) (suc (col .fact)) (omega arith), d, a, n)
+    (has-by-kind (codeKind code) _ _ _ x (ltb x (col .actions)) _ _ _
+    (has-shared (below (col .actions)) (col .deletes) x ∙ ap (λ b. b && has (col .deletes) x) all)
+    (has-removed (below (col .actions)) (col .adds) x ∙ ap (λ b. b && not (has (col .adds) x)) all)
+    (has-shared (below (col .actions)) (col .needs) x ∙ ap (λ b. b && has (col .needs) x) all))
+  where
+    least : {m : ℕ} → m ≤ maxActions → min m width ≡ m
+    least l = omega arith
+
+-- Working is monotone: a list that keeps the fact right has no repair that the fullest choice lacks, so the fullest does too.
+pub fullest-right : (col : Column) (s : Choice) → Fullest col s → (l : List ℕ) → KeepsIn col l → Right (cellsWith col s) (courseIn col) (col .fact)
+unfolding numbersIn
+fullest-right col s full l keeps =
+    right-more (cellsIn col) (courseIn col) (col .fact) (isIn l) (numbersIn (col .fact) s) more (keeps .right)
+  where
+    more : (n : ℕ) → factOf n ≡ col .fact → isIn l n ≡ true → numbersIn (col .fact) s n ≡ true
+    more n own h =
+        let here : codeNumber (col .fact) (n % perFact) ≡ n = omega arith in
+        rw (eq-eqb (factOf n) (col .fact) own, full (n % perFact) (omega arith), here) (keeps .permitted .each n h)
+
+-- And then its list keeps the fact right.
+pub fullest-keeps : (col : Column) (s : Choice) → Fullest col s → Right (cellsWith col s) (courseIn col) (col .fact)
+    → KeepsIn col (listOf (col .fact) s)
+fullest-keeps col s full right = right-keeps col s (λ code h chosen. sym (full code h) ∙ chosen) right
+
+-- ---- a task and its column
+
+pub shows-formed : (t : Task) → WellFormed t → (col : Column) → Shows t col → ColumnFormed col
+shows-formed t well col shows = record {
+  actions-high = omega (arith, shows .actions, well .actions-high);
+  count-high = omega (arith, shows .count, well .count-high);
+  steps-length = ap length (shows .steps) ∙ well .shaped .steps;
+  steps-below = λ i h. rw (shows .steps, shows .actions) (well .steps-below i (omega (arith, shows .count)));
+}
+
+module _ (t : Task) (col : Column) (shows : Shows t col) (inside : col .fact < t .table .facts) where
+  -- The same repairs of the fact are permitted.
+  same-permits : (k a : ℕ) → permits (cellsOf (t .table)) (col .fact) k a ≡ permits (cellsIn col) (col .fact) k a
+  unfolding permits cellsOf cellsIn
+  same-permits k a =
+      rw (lt-ltb (col .fact) (t .table .facts) inside, lt-ltb (col .fact) (suc (col .fact)) (omega arith), shows .actions, shows .deletes a, shows .adds a, shows .needs a)
+
+  same-permitted : (n : ℕ) → factOf n ≡ col .fact → permitted (cellsOf (t .table)) n ≡ permitted (cellsIn col) n
+  same-permitted n own =
+      permitted-permits (cellsOf (t .table)) n ∙
+      subst (λ (f : ℕ). permits (cellsOf (t .table)) f (kindOf n) (actionOf n) ≡ permits (cellsIn col) f (kindOf n) (actionOf n)) (sym own) (same-permits (kindOf n) (actionOf n)) ∙
+      sym (permitted-permits (cellsIn col) n)
+
+  -- With the same repairs applied the fact's cells and course are the same.
+  same-cells : (r : Course) (R : ℕ → Bool) → SameAt (col .fact) r (repaired (cellsOf (t .table)) R) (repaired (cellsIn col) R)
+  unfolding cellsOf cellsIn
+  same-cells r R = record {
+    needs = λ i h. rw (shows .needs (r .step i));
+    adds = λ i h. rw (shows .adds (r .step i));
+    deletes = λ i h. rw (shows .deletes (r .step i));
+  }
+
+  same-course : SameCourseAt (col .fact) (courseOf (t .run)) (courseIn col)
+  unfolding courseOf courseIn
+  same-course = record {
+    start = sym (shows .start);
+    goal = sym (shows .goal);
+    count = sym (shows .count);
+    steps = λ i h. rw (shows .steps);
+  }
+
+  -- So a list keeps the fact right in the task exactly if it does so in the column.
+  pub keeps-in : (l : List ℕ) → KeepsFor t (col .fact) l → KeepsIn col l
+  keeps-in l keeps = record {
+    permitted = record {
+      ascending = keeps .permitted .ascending;
+      each = λ n h. sym (same-permitted n (keeps .own n h)) ∙ keeps .permitted .each n h;
+    };
+    own = keeps .own;
+    right = right-same (col .fact) (courseOf (t .run)) (courseIn col) (repaired (cellsOf (t .table)) (isIn l)) (repaired (cellsIn col) (isIn l))
+        (same-cells (courseOf (t .run)) (isIn l)) same-course (keeps .right);
+  }
+
+  pub in-keeps : (l : List ℕ) → KeepsIn col l → KeepsFor t (col .fact) l
+  in-keeps l keeps = record {
+    permitted = record {
+      ascending = keeps .permitted .ascending;
+      each = λ n h. same-permitted n (keeps .own n h) ∙ keeps .permitted .each n h;
+    };
+    own = keeps .own;
+    right = right-same (col .fact) (courseIn col) (courseOf (t .run)) (repaired (cellsIn col) (isIn l)) (repaired (cellsOf (t .table)) (isIn l))
+        (sameAt-sym (col .fact) (courseIn col) _ _ (same-cells (courseIn col) (isIn l))) (sameCourse-sym (col .fact) _ _ same-course)
+        (keeps .right);
+  }

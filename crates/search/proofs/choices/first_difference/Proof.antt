@@ -1,0 +1,90 @@
+-- `search::choices::first_difference` looks at the kinds in turn: each that is passed has no difference.
+use Prim.Native.Nat.{_+_, _*_}
+use native.Mathlib.Omega.{arith}
+use borrow.Author.Needs.{needs}
+use Rattle.table.specs.Repairs.{dropDelete, addEffect, dropNeed}
+use Rattle.table.specs.Sizes.{perFact, perKind}
+use Rattle.search.proofs.MaskLaws.{SameBelow, same-through, differs-here}
+use Rattle.search.proofs.choices.first_difference.Statement.{statement}
+use Rattle.search.proofs.choices.first_difference.Tie as tie
+
+first-unshared-requires : tie.Need-first-unshared-requires
+first-unshared-requires c κs = search needs
+
+returns : tie.Need-returns
+returns c =
+    let args = c .before .before .args in
+    differs-here (args .a) (args .b) dropDelete (c .before .first-unshared .result) (omega arith) (c .before .first-unshared .ensures)
+    (c .before .first-unshared .result) (omega arith) (λ k h. absurd (omega arith)) (c .if1 .taken)
+
+first-unshared-requires-2 : tie.Need-first-unshared-requires-2
+first-unshared-requires-2 c κs = search needs
+
+mul-result : tie.Need-mul-result
+mul-result c = search needs
+
+add-result : tie.Need-add-result
+add-result c = search needs
+
+-- The sets agree on the deletes, once these are passed.
+deletes-same : (c : tie.Else1) → SameBelow (c .before .before .args .a) (c .before .before .args .b) (perKind * addEffect)
+deletes-same c =
+    let args = c .before .before .args in
+    same-through (args .a) (args .b) dropDelete (c .before .first-unshared .result) (omega arith) (c .before .first-unshared .ensures)
+    (λ k h. absurd (omega arith)) (c .if1 .left)
+
+returns-2 : tie.Need-returns-2
+returns-2 c =
+    let args = c .before .before .before .before .args in
+    let adds = c .before .first-unshared2 in
+    differs-here (args .a) (args .b) addEffect (adds .result) (omega arith) (adds .ensures)
+    (perKind * addEffect + adds .result) (omega arith) (deletes-same (c .before .before)) (c .if2 .taken)
+
+first-unshared-requires-3 : tie.Need-first-unshared-requires-3
+first-unshared-requires-3 c κs = search needs
+
+mul-result-2 : tie.Need-mul-result-2
+mul-result-2 c = search needs
+
+add-result-2 : tie.Need-add-result-2
+add-result-2 c = search needs
+
+-- And on the adds, once those are passed too.
+adds-same : (c : tie.Else2) → SameBelow (c .before .before .before .before .args .a) (c .before .before .before .before .args .b) (perKind * dropNeed)
+adds-same c =
+    let args = c .before .before .before .before .args in
+    let adds = c .before .first-unshared2 in
+    same-through (args .a) (args .b) addEffect (adds .result) (omega arith) (adds .ensures) (deletes-same (c .before .before)) (c .if2 .left)
+
+returns-3 : tie.Need-returns-3
+returns-3 c =
+    let args = c .before .before .before .before .before .before .args in
+    let needs = c .before .first-unshared3 in
+    differs-here (args .a) (args .b) dropNeed (needs .result) (omega arith) (needs .ensures)
+    (perKind * dropNeed + needs .result) (omega arith) (adds-same (c .before .before)) (c .if3 .taken)
+
+returns-4 : tie.Need-returns-4
+returns-4 c =
+    let args = c .before .before .before .before .before .before .args in
+    let needs = c .before .first-unshared3 in
+    record {
+      within = omega arith;
+      same = same-through (args .a) (args .b) dropNeed (needs .result) (omega arith) (needs .ensures) (adds-same (c .before .before)) (c .if3 .left);
+      differs = λ h. absurd (omega arith);
+    }
+
+pub first-difference-spec : {M : Type 1} → statement M
+first-difference-spec =
+    tie.close
+    (tie.spec
+    first-unshared-requires
+    returns
+    first-unshared-requires-2
+    mul-result
+    add-result
+    returns-2
+    first-unshared-requires-3
+    mul-result-2
+    add-result-2
+    returns-3
+    returns-4)

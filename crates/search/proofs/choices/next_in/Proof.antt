@@ -1,0 +1,117 @@
+-- `search::choices::next_in` looks at the kinds in turn: each that is passed has no code from there on.
+use Prim.Native.Nat.{_+_, _*_}
+use native.Mathlib.Omega.{arith}
+use borrow.Author.Needs.{needs}
+use Rattle.table.specs.Repairs.{dropDelete, addEffect, dropNeed}
+use Rattle.table.specs.Sizes.{perFact, perKind}
+use Rattle.search.proofs.MaskLaws.{NoneIn, next-none, next-here}
+use Rattle.search.proofs.choices.next_in.Statement.{statement}
+use Rattle.search.proofs.choices.next_in.Tie as tie
+
+next-action-requires : tie.Need-next-action-requires
+next-action-requires c κs = search needs
+
+returns : tie.Need-returns
+returns c =
+    let args = c .before .before .args in
+    let deletes = c .before .next-action in
+    next-here (args .s) dropDelete (args .from) (args .from) (deletes .result) (omega arith) (omega arith) (deletes .ensures)
+    (deletes .result) (omega arith) (λ k h. absurd (omega arith)) (c .if1 .taken)
+
+mul-passed : tie.Need-mul-passed
+mul-passed c = search needs
+
+passed-requires : tie.Need-passed-requires
+passed-requires c κs = search needs
+
+next-action-requires-2 : tie.Need-next-action-requires-2
+next-action-requires-2 c κs = search needs
+
+mul-result : tie.Need-mul-result
+mul-result c = search needs
+
+add-result : tie.Need-add-result
+add-result c = search needs
+
+-- No delete from there on, once these are passed.
+no-delete : (c : tie.Else1) → NoneIn (c .before .before .args .s) (c .before .before .args .from) (perKind * addEffect)
+no-delete c =
+    let args = c .before .before .args in
+    let deletes = c .before .next-action in
+    next-none (args .s) dropDelete (args .from) (args .from) (deletes .result) (omega arith) (omega arith) (deletes .ensures)
+    (λ k h. absurd (omega arith)) (c .if1 .left)
+
+returns-2 : tie.Need-returns-2
+returns-2 c =
+    let args = c .before .before .before .before .before .args in
+    let adds = c .before .next-action2 in
+    let skip = c .before .before .passed in
+    next-here (args .s) addEffect (args .from) (skip .result) (adds .result) (omega arith) (skip .ensures) (adds .ensures)
+    (perKind * addEffect + adds .result) (omega arith) (no-delete (c .before .before .before)) (c .if2 .taken)
+
+mul-passed-2 : tie.Need-mul-passed-2
+mul-passed-2 c = search needs
+
+passed-requires-2 : tie.Need-passed-requires-2
+passed-requires-2 c κs = search needs
+
+next-action-requires-3 : tie.Need-next-action-requires-3
+next-action-requires-3 c κs = search needs
+
+mul-result-2 : tie.Need-mul-result-2
+mul-result-2 c = search needs
+
+add-result-2 : tie.Need-add-result-2
+add-result-2 c = search needs
+
+-- And no add, once those are passed too.
+no-add : (c : tie.Else2)
+    → NoneIn (c .before .before .before .before .before .args .s) (c .before .before .before .before .before .args .from) (perKind * dropNeed)
+no-add c =
+    let args = c .before .before .before .before .before .args in
+    let adds = c .before .next-action2 in
+    let skip = c .before .before .passed in
+    next-none (args .s) addEffect (args .from) (skip .result) (adds .result) (omega arith) (skip .ensures) (adds .ensures)
+    (no-delete (c .before .before .before)) (c .if2 .left)
+
+returns-3 : tie.Need-returns-3
+returns-3 c =
+    let args = c .before .before .before .before .before .before .before .before .args in
+    let needs = c .before .next-action3 in
+    let skip = c .before .before .passed2 in
+    next-here (args .s) dropNeed (args .from) (skip .result) (needs .result) (omega arith) (skip .ensures) (needs .ensures)
+    (perKind * dropNeed + needs .result) (omega arith) (no-add (c .before .before .before)) (c .if3 .taken)
+
+returns-4 : tie.Need-returns-4
+returns-4 c =
+    let start = c .before .before .before .before .before .before .before .before in
+    let needs = c .before .next-action3 in
+    let skip = c .before .before .passed2 in
+    record {
+      after = start .pre;
+      within = omega arith;
+      absent =
+          next-none (start .args .s) dropNeed (start .args .from) (skip .result) (needs .result) (omega arith) (skip .ensures)
+          (needs .ensures) (no-add (c .before .before .before)) (c .if3 .left);
+      present = λ h. absurd (omega arith);
+    }
+
+pub next-in-spec : {M : Type 1} → statement M
+next-in-spec =
+    tie.close
+    (tie.spec
+    next-action-requires
+    returns
+    mul-passed
+    passed-requires
+    next-action-requires-2
+    mul-result
+    add-result
+    returns-2
+    mul-passed-2
+    passed-requires-2
+    next-action-requires-3
+    mul-result-2
+    add-result-2
+    returns-3
+    returns-4)

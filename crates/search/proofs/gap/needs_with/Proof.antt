@@ -1,0 +1,20 @@
+-- `search::gap::needs_with` reads the need of an action with the candidate applied.
+use mathlib.Core.Path.{sym}
+use borrow.Author.Needs.{needs}
+use Rattle.search.proofs.ColumnLaws.{needs-mask}
+use Rattle.search.proofs.gap.needs_with.Statement.{statement}
+use Rattle.search.proofs.gap.needs_with.Tie as tie
+
+remove-requires : tie.Need-remove-requires
+remove-requires c κs = search needs
+
+contains-requires : tie.Need-contains-requires
+contains-requires c κs = search needs
+
+returns : tie.Need-returns
+returns c =
+    rw (c .contains .ensures, c .before .remove .ensures)
+    (sym (needs-mask (c .before .before .args .col) (c .before .before .args .s) (c .before .before .args .a) (c .before .before .pre)))
+
+pub needs-with-spec : {M : Type 1} → statement M
+needs-with-spec = tie.close (tie.spec remove-requires contains-requires returns)

@@ -1,0 +1,69 @@
+-- `search::search::shortest` tries the lengths in turn: when it comes to a length, every list has at least so many.
+use mathlib.Core.List.{List}
+use Prim.Native.Nat.{ℕ, _+_, _-_, _≤_}
+use native.Mathlib.Omega.{arith}
+use lib.ListN.{length}
+use borrow.Author.Needs.{needs}
+use Rattle.table.specs.Sizes.{maxRow}
+use Rattle.search.specs.Columns.{KeepsIn}
+use Rattle.search.proofs.SearchLaws.{nothing-allowed, shortest-found, longer-than}
+use Rattle.search.proofs.search.shortest.Statement.{statement}
+use Rattle.search.proofs.search.shortest.Tie as tie
+
+abbrev Inv-loop : tie.InvT-loop
+Inv-loop col left₀ left = (left ≤ maxRow + 1) × ((l : List ℕ) → KeepsIn col l → left ≤ length l)
+
+abbrev μ-loop : tie.MeasureT-loop
+μ-loop col left₀ left = maxRow + 1 - left
+
+loop-holds : tie.Need-loop-holds Inv-loop μ-loop
+loop-holds c = (omega arith, λ l keeps. omega arith)
+
+nothing-requires : tie.Need-nothing-requires Inv-loop μ-loop
+nothing-requires c κs = search needs
+
+test-requires : tie.Need-test-requires Inv-loop μ-loop
+test-requires c κs =
+    (c .before .before .before .pre, nothing-allowed (c .before .before .before .args .col) (c .nothing .result) (c .nothing .ensures))
+
+returns : tie.Need-returns Inv-loop μ-loop
+returns c =
+    let from = c .before .before .nothing in
+    shortest-found (c .before .before .before .before .before .args .col) (from .result) (c .before .before .before .before .loop .left)
+    (c .before .test .result) (from .ensures) (omega arith) (c .if1 .taken) (c .before .test .ensures)
+
+add-left : tie.Need-add-left Inv-loop μ-loop
+add-left c = omega arith
+
+loop-less : tie.Need-loop-less Inv-loop μ-loop
+loop-less c = omega arith
+
+loop-again : tie.Need-loop-again Inv-loop μ-loop
+loop-again c =
+    let from = c .before .before .nothing in (
+      omega arith,
+      longer-than (c .before .before .before .before .before .args .col) (from .result) (c .before .before .before .before .loop .left)
+          (c .before .test .result) (from .ensures) (c .if1 .left) (c .before .test .ensures),
+    )
+
+nothing-requires-2 : tie.Need-nothing-requires-2 Inv-loop μ-loop
+nothing-requires-2 c κs = search needs
+
+returns-2 : tie.Need-returns-2 Inv-loop μ-loop
+returns-2 c = λ l keeps. omega (arith, c .before .before .loop .inv .1 l keeps)
+
+pub shortest-spec : {M : Type 1} → statement M
+shortest-spec =
+    tie.close
+    (tie.spec
+    Inv-loop
+    μ-loop
+    loop-holds
+    nothing-requires
+    test-requires
+    returns
+    add-left
+    loop-less
+    loop-again
+    nothing-requires-2
+    returns-2)

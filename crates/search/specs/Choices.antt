@@ -1,0 +1,39 @@
+-- Sets of repairs of one fact. A repair of a fact is known by its code 32k + a, below 96; its number is 96f more.
+use mathlib.Core.Bool.{Bool, true, _&&_}
+use mathlib.Core.List.{List, [], _∷_}
+use mathlib.Core.Path.{_≡_}
+use Prim.Native.Nat.{ℕ, _+_, _*_, _/_, _%_, _<_}
+use lib.Dec.{eqb}
+use Rattle.facts.specs.Sets.{has, joined, only}
+use Rattle.table.specs.Lists.{gather, piece}
+use Rattle.table.specs.Repairs.{byKind, factOf, dropDelete, addEffect, dropNeed}
+use Rattle.table.specs.Sizes.{perFact, perKind}
+use Rattle.search.specs.declared.Choice.{Choice}
+
+abbrev pub codeKind : ℕ → ℕ
+codeKind code = code / perKind
+
+abbrev pub codeAction : ℕ → ℕ
+codeAction code = code % perKind
+
+abbrev pub codeNumber : ℕ → ℕ → ℕ
+codeNumber f code = perFact * f + code
+
+unfoldable pub nothing : Choice
+nothing = record { deletes = 0; adds = 0; needs = 0 }
+
+-- The repair with this code is in the set.
+unfoldable pub inChoice : Choice → ℕ → Bool
+inChoice s code = has (byKind (codeKind code) (s .deletes) (s .adds) (s .needs)) (codeAction code)
+
+-- The set of repair numbers that a choice of fact f stands for.
+unfoldable pub numbersIn : ℕ → Choice → ℕ → Bool
+numbersIn f s n = eqb (factOf n) f && inChoice s (n % perFact)
+
+-- The same as an ascending list.
+unfoldable pub listOf : ℕ → Choice → List ℕ
+listOf f s = gather (λ code. piece (inChoice s code) (codeNumber f code ∷ [])) perFact
+
+-- The set R of numbers contains the choice.
+abbrev pub Contains : (ℕ → Bool) → ℕ → Choice → Type 0
+Contains R f s = (code : ℕ) → code < perFact → inChoice s code ≡ true → R (codeNumber f code) ≡ true

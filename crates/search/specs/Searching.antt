@@ -1,0 +1,60 @@
+-- What each part of the search promises: document 01, "A conflict" and "When a candidate still fails".
+use mathlib.Core.Bool.{Bool, true, false}
+use mathlib.Core.List.{List}
+use mathlib.Core.Path.{_≡_}
+use Prim.Native.Nat.{ℕ, suc, _<_, _≤_}
+use lib.ListN.{length}
+use Rattle.table.specs.Answer.{First}
+use Rattle.table.specs.Order.{isIn, _≼_}
+use Rattle.table.specs.Repairs.{permitted, repaired}
+use Rattle.table.specs.Sizes.{maxRow, perFact}
+use Rattle.table.specs.Strips.{Cells, Right, stateAt}
+use Rattle.search.specs.declared.Column.{Column}
+use Rattle.search.specs.declared.Choice.{Choice}
+use Rattle.search.specs.declared.Found.{Found}
+use Rattle.search.specs.Choices.{inChoice, numbersIn, listOf, codeNumber, Contains}
+use Rattle.search.specs.Columns.{cellsIn, courseIn, KeepsIn}
+
+-- The column's table with a candidate applied.
+abbrev pub cellsWith : Column → Choice → Cells
+cellsWith col s = repaired (cellsIn col) (numbersIn (col .fact) s)
+
+-- The fact is needed at place j with the candidate applied: by step j + 1, or as a goal after the last step.
+pub data NeededAt (col : Column) (s : Choice) (j : ℕ) : Type 0 where
+  by-step : j < col .count → cellsWith col s .needs (courseIn col .step j) (col .fact) ≡ true → NeededAt col s j
+  by-goal : j ≡ col .count → col .goal ≡ true → NeededAt col s j
+
+-- "a fact f is missing at step j": needed there, and absent.
+pub record Missing (col : Column) (s : Choice) (j : ℕ) : Type 0 where
+  pub needed : NeededAt col s j
+  pub absent : stateAt (cellsWith col s) (courseIn col) j (col .fact) ≡ false
+
+-- Each repair of the choice is permitted.
+abbrev pub Allowed : Column → Choice → Type 0
+Allowed col s = (code : ℕ) → code < perFact → inChoice s code ≡ true → permitted (cellsIn col) (codeNumber (col .fact) code) ≡ true
+
+-- q is a conflict of the candidate s: every set of repairs that contains s and keeps the fact right has one of q's,
+-- none of q's is in s, and each is permitted.
+pub record Conflicts (col : Column) (s : Choice) (q : Choice) : Type 0 where
+  pub meets : (R : ℕ → Bool) → Right (repaired (cellsIn col) R) (courseIn col) (col .fact) → Contains R (col .fact) s →
+      (code : ℕ) × (code < perFact) × (inChoice q code ≡ true) × (R (codeNumber (col .fact) code) ≡ true)
+  pub fresh : (code : ℕ) → code < perFact → inChoice q code ≡ true → inChoice s code ≡ false
+  pub allowed : Allowed col q
+
+-- The lists among which a search with a candidate chooses: those that keep the fact right, contain the candidate and
+-- have at most k repairs.
+pub record Among (col : Column) (s : Choice) (k : ℕ) (l : List ℕ) : Type 0 where
+  pub keeps : KeepsIn col l
+  pub contains : Contains (isIn l) (col .fact) s
+  pub short : length l ≤ k
+
+-- What `test` and `branch` give: the first of the shortest of them, or nothing exactly if there is none.
+abbrev pub Chosen : Column → Choice → ℕ → Bool → Choice → Type 0
+Chosen col s k true best = First (Among col s k) (listOf (col .fact) best)
+Chosen col s k false best = (l : List ℕ) → Among col s k l → ⊥
+
+-- What the whole search of a column gives: the first of the shortest lists that keep its fact right, if that has at
+-- most six; or nothing, and then every list that does has more.
+abbrev pub Shortest : Column → Bool → Choice → Type 0
+Shortest col true best = First (KeepsIn col) (listOf (col .fact) best) × (length (listOf (col .fact) best) ≤ maxRow)
+Shortest col false best = (l : List ℕ) → KeepsIn col l → maxRow < length l

@@ -1,0 +1,31 @@
+-- What a column of a task shows, and the fullest choice of a column.
+use mathlib.Core.Path.{_≡_}
+use Prim.Native.Nat.{ℕ, _<_}
+use lib.ListN.{getD}
+use Rattle.facts.specs.Sets.{has}
+use Rattle.table.specs.Repairs.{permitted}
+use Rattle.table.specs.Sizes.{perFact}
+use Rattle.table.specs.declared.Task.{Task}
+use Rattle.search.specs.declared.Column.{Column}
+use Rattle.search.specs.declared.Choice.{Choice}
+use Rattle.search.specs.Choices.{inChoice, codeNumber}
+use Rattle.search.specs.Columns.{cellsIn}
+
+-- The actions whose set has fact f.
+abbrev pub Gathers : (ℕ → ℕ) → ℕ → ℕ → Type 0
+Gathers sets f m = (a : ℕ) → has m a ≡ has (sets a) f
+
+-- The column shows its fact of the task: which actions need, add and delete it, start and goal, and the steps.
+pub record Shows (t : Task) (col : Column) : Type 0 where
+  pub actions : col .actions ≡ t .table .actions
+  pub needs : Gathers (λ a. getD (t .table .needs) a 0) (col .fact) (col .needs)
+  pub adds : Gathers (λ a. getD (t .table .adds) a 0) (col .fact) (col .adds)
+  pub deletes : Gathers (λ a. getD (t .table .deletes) a 0) (col .fact) (col .deletes)
+  pub start : col .start ≡ has (t .run .start) (col .fact)
+  pub goal : col .goal ≡ has (t .run .goal) (col .fact)
+  pub count : col .count ≡ t .run .count
+  pub steps : col .steps ≡ t .run .steps
+
+-- Every permitted repair of the column's fact, and nothing else.
+abbrev pub Fullest : Column → Choice → Type 0
+Fullest col s = (code : ℕ) → code < perFact → inChoice s code ≡ permitted (cellsIn col) (codeNumber (col .fact) code)

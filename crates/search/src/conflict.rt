@@ -1,0 +1,78 @@
+// The conflict of a candidate at a place where its fact is missing: repairs of which every working list that contains
+// the candidate has one (document 01, "A conflict"; source document 000).
+use crate::Choice;
+use crate::Column;
+use crate::gap;
+ghost use mathlib.Core.Path.{_≡_};
+ghost use Prim.Native.Nat.{_+_, _-_, _≤_, min};
+ghost use Rattle.search.specs.Columns.{ColumnFormed};
+ghost use Rattle.search.specs.Gaps.{LastDelete, ActionsOf};
+ghost use Rattle.search.specs.Searching.{Missing, Conflicts};
+
+// "Look back from j until the last step that deleted f is met, or the start": the deleting step, counted from 1, or 0
+// for the start.
+pub fn look_back(col: Column, s: Choice, j: usize) -> usize
+    requires { ⌜ ColumnFormed col ⌝ }
+    requires { ⌜ j ≤ col .count ⌝ }
+    ensures { λ r. ⌜ LastDelete col s j r ⌝ }
+{
+    let mut i = j;
+    loop {
+        if i == 0 {
+            break 0;
+        }
+        let a = col.steps[i - 1] as usize;
+        if gap::deletes_with(col, s, a) {
+            break i;
+        }
+        i -= 1;
+    }
+}
+
+// The set of the actions of the steps from `start` on and before `end`, counted from 0. A repair changes an action
+// everywhere it is run, so a step stands for its action.
+pub fn actions_between(col: Column, start: usize, end: usize) -> u64
+    requires { ⌜ ColumnFormed col ⌝ }
+    requires { ⌜ end ≤ col .count ⌝ }
+    ensures { λ r. ⌜ ActionsOf col start end r ⌝ }
+{
+    let mut found = 0;
+    for i in start..end {
+        let a = col.steps[i] as usize;
+        found = facts::with_fact(found, a);
+    }
+    found
+}
+
+// The place of the deleting step; the start is its own place.
+pub fn place_of(step: usize) -> usize
+    ensures { λ r. ⌜ r ≡ step - 1 ⌝ }
+{
+    if step == 0 { 0 } else { step - 1 }
+}
+
+// The place after the step at j; a goal has no step, and so no need to drop.
+pub fn after_step(j: usize, count: usize) -> usize
+    ensures { λ r. ⌜ r ≡ min (j + 1) count ⌝ }
+{
+    if j < count { j + 1 } else { count }
+}
+
+// "drop the need at j (not for a goal), drop that delete, add f at any step from the deleting one up to j-1"
+pub fn conflict(col: Column, s: Choice, j: usize) -> Choice
+    requires { ⌜ ColumnFormed col ⌝ }
+    requires { ⌜ Missing col s j ⌝ }
+    ensures { λ r. ⌜ Conflicts col s r ⌝ }
+{
+    let step = look_back(col, s, j);
+    let place = place_of(step);
+    let count = col.count;
+    let deletes = actions_between(col, place, step);
+    let adds = actions_between(col, place, j);
+    let needs = actions_between(col, j, after_step(j, count));
+    Choice {
+        deletes,
+        adds,
+        needs,
+    }
+}

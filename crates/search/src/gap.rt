@@ -1,0 +1,55 @@
+// A column's cells with a candidate applied, and the first place of the run where the fact is missing (document 01, "A
+// conflict": "a fact f is missing at step j").
+use crate::Choice;
+use crate::Column;
+ghost use mathlib.Core.Path.{_≡_};
+ghost use Prim.Native.Nat.{_<_};
+ghost use Rattle.table.specs.Sizes.{maxActions};
+ghost use Rattle.search.specs.Columns.{ColumnFormed};
+ghost use Rattle.search.specs.Searching.{cellsWith};
+ghost use Rattle.search.specs.Gaps.{Gap};
+
+// The cells of action a, read through the candidate: no repaired table is built, and in a loop the joined masks stay
+// in registers.
+pub fn needs_with(col: Column, s: Choice, a: usize) -> bool
+    requires { ⌜ a < maxActions ⌝ }
+    ensures { λ r. ⌜ r ≡ cellsWith col s .needs a (col .fact) ⌝ }
+{
+    facts::contains(facts::remove(col.needs, s.needs), a)
+}
+
+pub fn adds_with(col: Column, s: Choice, a: usize) -> bool
+    requires { ⌜ a < maxActions ⌝ }
+    ensures { λ r. ⌜ r ≡ cellsWith col s .adds a (col .fact) ⌝ }
+{
+    facts::contains(facts::join(col.adds, s.adds), a)
+}
+
+pub fn deletes_with(col: Column, s: Choice, a: usize) -> bool
+    requires { ⌜ a < maxActions ⌝ }
+    ensures { λ r. ⌜ r ≡ cellsWith col s .deletes a (col .fact) ⌝ }
+{
+    facts::contains(facts::remove(col.deletes, s.deletes), a)
+}
+
+// The first place where the fact is missing: step i + 1 has place i, the goal the place after the last step. One more
+// than that if it is missing nowhere.
+pub fn first_gap(col: Column, s: Choice) -> usize
+    requires { ⌜ ColumnFormed col ⌝ }
+    ensures { λ r. ⌜ Gap col s r ⌝ }
+{
+    let count = col.count;
+    let mut present = col.start;
+    for i in 0..count {
+        let a = col.steps[i] as usize;
+        if needs_with(col, s, a) & !present {
+            return i;
+        }
+        present = (present & !deletes_with(col, s, a)) | adds_with(col, s, a);
+    }
+    if col.goal & !present {
+        count
+    } else {
+        count + 1
+    }
+}

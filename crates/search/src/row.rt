@@ -1,0 +1,112 @@
+// A fact's row of the session table (document 01, "The session table").
+use crate::Choice;
+use crate::choices;
+use crate::gap;
+use crate::search;
+use crate::view;
+use table::ROW_PLACES;
+use table::Task;
+use table::UNUSED;
+use table::repair::Repair;
+ghost use mathlib.Core.Bool.{cond, true};
+ghost use mathlib.Core.List.{_∷_};
+ghost use mathlib.Core.Path.{_≡_};
+ghost use Prim.Native.Nat.{_<_, _≤_};
+ghost use lib.ListN.{length, getD, replicate};
+ghost use Rattle.table.specs.Answer.{found};
+ghost use Rattle.table.specs.Sizes.{maxFacts, maxRow, perFact, unused};
+ghost use Rattle.table.specs.Tasks.{WellFormed};
+ghost use Rattle.search.specs.Choices.{inChoice, listOf, codeNumber};
+ghost use Rattle.search.specs.Rows.{rowOf, rowWith, rowOver, rowHopeless, RightRow};
+
+// First numbers that announce no list.
+pub const OVER: usize = 7;
+
+pub const HOPELESS: usize = 8;
+
+// A row while it is written.
+struct Filling {
+    places: [u16; ROW_PLACES],
+}
+
+// A row without repairs.
+fn bare_row(first: u16) -> Filling
+    ensures { λ r. ⌜ r .places ≡ (first ∷ replicate maxRow unused) ⌝ }
+{
+    let mut row = Filling {
+        places: [UNUSED; ROW_PLACES],
+    };
+    row.places[0] = first;
+    row
+}
+
+// The row with one repair more.
+fn row_with(row: Filling, number: u16) -> Filling
+    requires { ⌜ getD (row .places) 0 0 < maxRow ⌝ }
+    ensures { λ r. ⌜ r .places ≡ rowWith (row .places) number ⌝ }
+{
+    let first = row.places[0];
+    let at = first as usize + 1;
+    let mut next = row;
+    next.places[at] = number;
+    next.places[0] = first + 1;
+    next
+}
+
+// The row with the repair of this code, if it is chosen.
+fn row_with_code(row: Filling, f: usize, s: Choice, code: usize) -> Filling
+    requires { ⌜ f < maxFacts ⌝ }
+    requires { ⌜ code < perFact ⌝ }
+    requires { ⌜ (inChoice s code ≡ true → getD (row .places) 0 0 < maxRow) ⌝ }
+    ensures { λ r. ⌜ r .places ≡ cond (inChoice s code) (rowWith (row .places) (codeNumber f code)) (row .places) ⌝ }
+{
+    if choices::in_choice(s, code) {
+        row_with(row, (Repair::PER_FACT * f + code) as u16)
+    } else {
+        row
+    }
+}
+
+// The row of a choice whose list it has room for.
+fn row_of_choice(f: usize, s: Choice) -> Filling
+    requires { ⌜ f < maxFacts ⌝ }
+    requires { ⌜ length (listOf f s) ≤ maxRow ⌝ }
+    ensures { λ r. ⌜ r .places ≡ rowOf (found (listOf f s)) ⌝ }
+{
+    let mut row = bare_row(0);
+    for code in 0..Repair::PER_FACT {
+        row = row_with_code(row, f, s, code);
+    }
+    row
+}
+
+// The right row of fact f: the least list if it has at most six; else 8 if not even the fullest choice keeps the fact
+// right, and 7 if that does. A fact from F up is right as it stands.
+fn right_row(t: Task, f: usize) -> Filling
+    requires { ⌜ WellFormed t ⌝ }
+    ensures { λ r. ⌜ RightRow t f (r .places) ⌝ }
+{
+    let facts = t.table.facts;
+    if facts <= f {
+        return bare_row(0);
+    }
+    let col = view::column_of(t, f);
+    let least = search::shortest(col);
+    if least.any {
+        return row_of_choice(f, least.choice);
+    }
+    let count = col.count;
+    if gap::first_gap(col, view::fullest(col)) <= count {
+        bare_row(HOPELESS as u16)
+    } else {
+        bare_row(OVER as u16)
+    }
+}
+
+pub fn row(t: Task, f: usize) -> [u16; ROW_PLACES]
+    requires { ⌜ WellFormed t ⌝ }
+    ensures { λ r. ⌜ RightRow t f r ⌝ }
+{
+    let row = right_row(t, f);
+    row.places
+}

@@ -1,0 +1,77 @@
+// The search for one fact's least list: a candidate is tested, and where it fails, each repair of its conflict is tried
+// in turn (document 01: "When a candidate still fails ..").
+use crate::Choice;
+use crate::Column;
+use crate::Found;
+use crate::choices;
+use crate::conflict;
+use crate::gap;
+use table::ROW;
+use table::repair::Repair;
+ghost use Prim.Native.Nat.{_+_, _<_};
+ghost use lib.ListN.{length};
+ghost use Rattle.search.specs.Choices.{listOf};
+ghost use Rattle.search.specs.Columns.{ColumnFormed};
+ghost use Rattle.search.specs.Searching.{Allowed, Conflicts, Chosen, Shortest};
+
+// The first of the shortest lists that keep the fact right, contain the candidate and have at most `left` repairs more.
+pub fn test(col: Column, s: Choice, left: usize) -> Found
+    requires { ⌜ ColumnFormed col ⌝ }
+    requires { ⌜ Allowed col s ⌝ }
+    ensures { λ r. ⌜ Chosen col s (length (listOf (col .fact) s) + left) (r .any) (r .choice) ⌝ }
+{
+    let count = col.count;
+    let j = gap::first_gap(col, s);
+    if count < j {
+        return Found {
+            any: true,
+            choice: s,
+        };
+    }
+    if left == 0 {
+        return Found {
+            any: false,
+            choice: s,
+        };
+    }
+    branch(col, s, conflict::conflict(col, s, j), left)
+}
+
+// The same, for a candidate that fails: every list that contains it has one of the conflict's repairs.
+pub fn branch(col: Column, s: Choice, q: Choice, left: usize) -> Found
+    requires { ⌜ ColumnFormed col ⌝ }
+    requires { ⌜ Allowed col s ⌝ }
+    requires { ⌜ Conflicts col s q ⌝ }
+    requires { ⌜ 0 < left ⌝ }
+    ensures { λ r. ⌜ Chosen col s (length (listOf (col .fact) s) + left) (r .any) (r .choice) ⌝ }
+{
+    let mut best = Found {
+        any: false,
+        choice: s,
+    };
+    let mut code = choices::next_in(q, 0);
+    while code < Repair::PER_FACT {
+        let found = test(col, choices::with_repair(s, code), left - 1);
+        best = choices::better(best, found);
+        code = choices::next_in(q, code + 1);
+    }
+    best
+}
+
+// The first of the shortest lists that keep the column's fact right, if a row has room for it. Lengths are tried in
+// turn, so that a deep search is paid only where it is needed.
+pub fn shortest(col: Column) -> Found
+    requires { ⌜ ColumnFormed col ⌝ }
+    ensures { λ r. ⌜ Shortest col (r .any) (r .choice) ⌝ }
+{
+    for left in 0..=ROW {
+        let found = test(col, choices::nothing(), left);
+        if found.any {
+            return found;
+        }
+    }
+    Found {
+        any: false,
+        choice: choices::nothing(),
+    }
+}

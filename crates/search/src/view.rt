@@ -1,0 +1,62 @@
+// One fact's column of a task, and the fullest choice of a column's repairs.
+use crate::Choice;
+use crate::Column;
+use table::ACTIONS;
+use table::Task;
+ghost use mathlib.Core.Bool.{cond};
+ghost use mathlib.Core.Path.{_≡_};
+ghost use lib.ListN.{getD};
+ghost use Rattle.facts.specs.Sets.{joined, only};
+ghost use Rattle.table.specs.Tasks.{WellFormed};
+ghost use Rattle.search.specs.Columns.{ColumnFormed};
+ghost use Rattle.search.specs.Views.{Gathers, Shows, Fullest};
+
+fn with_if(m: u64, a: usize, wanted: bool) -> u64
+    ensures { λ r. ⌜ r ≡ cond wanted (joined m (only a)) m ⌝ }
+{
+    if wanted { facts::with_fact(m, a) } else { m }
+}
+
+// The actions whose set has fact f.
+fn actions_having(sets: [u64; ACTIONS], f: usize) -> u64
+    ensures { λ r. ⌜ Gathers (λ a. getD sets a 0) f r ⌝ }
+{
+    let mut m = 0;
+    for a in 0..ACTIONS {
+        m = with_if(m, a, facts::contains(sets[a], f));
+    }
+    m
+}
+
+pub fn column_of(t: Task, f: usize) -> Column
+    ensures { λ r. ⌜ (r .fact ≡ f) × Shows t r ⌝ }
+{
+    let needs = t.table.needs;
+    let adds = t.table.adds;
+    let deletes = t.table.deletes;
+    let steps = t.run.steps;
+    Column {
+        fact: f,
+        actions: t.table.actions,
+        needs: actions_having(needs, f),
+        adds: actions_having(adds, f),
+        deletes: actions_having(deletes, f),
+        start: facts::contains(t.run.start, f),
+        goal: facts::contains(t.run.goal, f),
+        count: t.run.count,
+        steps,
+    }
+}
+
+// Every permitted repair of the column's fact: if these do not keep it right, nothing does.
+pub fn fullest(col: Column) -> Choice
+    requires { ⌜ ColumnFormed col ⌝ }
+    ensures { λ r. ⌜ Fullest col r ⌝ }
+{
+    let all = facts::below_mask(col.actions);
+    Choice {
+        deletes: facts::overlap(all, col.deletes),
+        adds: facts::remove(all, col.adds),
+        needs: facts::overlap(all, col.needs),
+    }
+}
