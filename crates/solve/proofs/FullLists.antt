@@ -1,0 +1,153 @@
+-- The fullest list of a fact, all its permitted repairs: with a step in the run it keeps the fact right. (Every need of the fact is dropped,
+-- and every action adds it, the last step's too.) So with a step some list works. Assumes nothing.
+use mathlib.Core.Bool.{Bool, true, false, not, _&&_, _||_, cond, false≢true}
+use mathlib.Core.List.{List, [], _∷_, _++_}
+use mathlib.Core.Logic.{_⊎_, inl, inr}
+use mathlib.Core.Path.{_≡_, refl, sym, ap, _∙_, subst}
+use Prim.Native.Nat.{ℕ, zero, suc, _+_, _-_, _*_, _<_, _≤_}
+use native.Mathlib.Omega.{arith}
+use borrow.Author.Tests.{lt-ltb}
+use lib.Dec.{ltb}
+use Rattle.table.specs.Answer.{Permitted, Works, Keeps}
+use Rattle.table.specs.Join.{KeepsBelow, Inside}
+use Rattle.table.specs.Lists.{gather, piece}
+use Rattle.table.specs.Order.{Ascending, AscendingFrom, isIn}
+use Rattle.table.specs.Repairs.{permits, permitted, chosen, repaired, numberOf, factOf, addEffect, dropNeed}
+use Rattle.table.specs.Sizes.{maxActions, kinds, perFact}
+use Rattle.table.specs.Strips.{Cells, Course, Right, stateAt}
+use Rattle.table.proofs.Bools.{by-order}
+use Rattle.table.proofs.FlagLaws.{and-left, and-right, and-both, or-left, or-right}
+use Rattle.table.proofs.JoinLaws.{keepsBelow-none, join-keeps, keepsBelow-works}
+use Rattle.table.proofs.OrderLaws.{isIn-none, isIn-head, isIn-cases, isIn-left, isIn-right, isIn-either, ascending-append}
+use Rattle.table.proofs.RepairNumbers.{inside-permits, permitted-number}
+use Rattle.table.proofs.RunLaws.{stateAt-next}
+
+-- ---- the numbers of a range that pass a test
+
+unfoldable picks : (ℕ → Bool) → ℕ → ℕ → List ℕ
+picks p base n = gather (λ i. piece (p (base + i)) ((base + i) ∷ [])) n
+
+picks-suc : (p : ℕ → Bool) (base n : ℕ) → picks p base (suc n) ≡ picks p base n ++ piece (p (base + n)) ((base + n) ∷ [])
+unfolding picks gather
+picks-suc p base n = refl
+
+module _ (p : ℕ → Bool) where
+  one-in : (x m : ℕ) (b : Bool) → p x ≡ b → isIn (piece b (x ∷ [])) m ≡ true → (m ≡ x) × (p m ≡ true)
+  one-in x m false e h = absurd (isIn-none m h)
+  one-in x m true e h = pick (isIn-cases x [] m h)
+    where
+      pick : (m ≡ x) ⊎ (isIn [] m ≡ true) → (m ≡ x) × (p m ≡ true)
+      pick (inl d) = (d, ap p d ∙ e)
+      pick (inr k) = absurd (isIn-none m k)
+
+  module _ (base : ℕ) where
+    picks-in : (n m : ℕ) → isIn (picks p base n) m ≡ true → (base ≤ m) × (m < base + n) × (p m ≡ true)
+    unfolding picks gather
+    picks-in zero m h = absurd (isIn-none m h)
+    picks-in (suc n) m h =
+        pick (picks-in n m) (isIn-either (picks p base n) (piece (p (base + n)) ((base + n) ∷ [])) m h)
+      where
+        pick : (isIn (picks p base n) m ≡ true → (base ≤ m) × (m < base + n) × (p m ≡ true))
+            → (isIn (picks p base n) m ≡ true) ⊎ (isIn (piece (p (base + n)) ((base + n) ∷ [])) m ≡ true)
+            → (base ≤ m) × (m < base + suc n) × (p m ≡ true)
+        pick before (inl k) = let q = before k in (q .0, omega (arith, q .1), q .2)
+        pick before (inr k) = let q = one-in (base + n) m (p (base + n)) refl k in (omega (arith, q .0), omega (arith, q .0), q .1)
+
+    picks-all : (n m : ℕ) → base ≤ m → m < base + n → p m ≡ true → isIn (picks p base n) m ≡ true
+    unfolding picks gather
+    picks-all zero m l h k = absurd (omega arith)
+    picks-all (suc n) m l h k =
+        by-order m (base + n)
+        (λ (low : m < base + n). isIn-left (picks p base n) (piece (p (base + n)) ((base + n) ∷ [])) m (picks-all n m l low k))
+        (λ (high : base + n ≤ m).
+        let e : base + n ≡ m = omega arith in
+        isIn-right (picks p base n) (piece (p (base + n)) ((base + n) ∷ [])) m (last e (p (base + n)) (ap p e ∙ k)))
+      where
+        last : base + n ≡ m → (b : Bool) → b ≡ true → isIn (piece b ((base + n) ∷ [])) m ≡ true
+        last e true d = subst (λ (x : ℕ). isIn ((base + n) ∷ []) x ≡ true) e (isIn-head (base + n) [])
+        last e false d = absurd (false≢true d)
+
+    picks-ascending : (n : ℕ) → Ascending (picks p base n)
+    unfolding picks gather
+    picks-ascending zero = tt
+    picks-ascending (suc n) =
+        ascending-append 0 (base + n) (picks p base n) (piece (p (base + n)) ((base + n) ∷ [])) (picks-ascending n)
+        (λ m h. picks-in n m h .1) (omega arith) (one (p (base + n)))
+      where
+        one : (b : Bool) → AscendingFrom (base + n) (piece b ((base + n) ∷ []))
+        one true = (omega arith, tt)
+        one false = tt
+
+-- ---- the fullest list of fact f
+
+unfoldable full : Cells → ℕ → List ℕ
+full c f = picks (permitted c) (perFact * f) perFact
+
+module _ (c : Cells) (actions : c .actions ≤ maxActions) (f : ℕ) (inside : f < c .facts) where
+  full-permitted : Permitted c (full c f)
+  unfolding full
+  full-permitted = record {
+    ascending = picks-ascending (permitted c) (perFact * f) perFact;
+    each = λ n h. picks-in (permitted c) (perFact * f) perFact n h .2;
+  }
+
+  full-own : (n : ℕ) → isIn (full c f) n ≡ true → factOf n ≡ f
+  unfolding full
+  full-own n h = let q = picks-in (permitted c) (perFact * f) perFact n h in omega (arith, q .0, q .1)
+
+  -- It has every repair of the fact that is permitted.
+  full-chosen : (k a : ℕ) → k < kinds → a < c .actions → permits c f k a ≡ true → chosen (isIn (full c f)) f k a ≡ true
+  unfolding full chosen
+  full-chosen k a hk ha h =
+      let low : a < maxActions = omega arith in
+      and-both (ltb a maxActions) (isIn (full c f) (numberOf f k a)) (lt-ltb a maxActions low)
+      (picks-all (permitted c) (perFact * f) perFact (numberOf f k a) (omega arith) (omega arith) (permitted-number c f k a hk low ∙ h))
+
+  full-needs : (a : ℕ) → a < c .actions → repaired c (isIn (full c f)) .needs a f ≡ true → ⊥
+  full-needs a ha h =
+      let R = isIn (full c f) in
+      let needed : c .needs a f ≡ true = and-left (c .needs a f) (not (chosen R f dropNeed a)) h in
+      let kept : not (chosen R f dropNeed a) ≡ true = and-right (c .needs a f) (not (chosen R f dropNeed a)) h in
+      let dropped = full-chosen dropNeed a (omega arith) ha (inside-permits c f dropNeed a inside ha needed) in
+      false≢true (ap not (sym dropped) ∙ kept)
+
+  full-adds : (a : ℕ) → a < c .actions → repaired c (isIn (full c f)) .adds a f ≡ true
+  full-adds a ha = pick (c .adds a f) refl
+    where
+      pick : (b : Bool) → c .adds a f ≡ b → (c .adds a f || chosen (isIn (full c f)) f addEffect a) ≡ true
+      pick true e = or-left (c .adds a f) (chosen (isIn (full c f)) f addEffect a) e
+      pick false e =
+          or-right (c .adds a f) (chosen (isIn (full c f)) f addEffect a)
+          (full-chosen addEffect a (omega arith) ha (inside-permits c f addEffect a inside ha (ap not e)))
+
+  module _ (r : Course) (some : 0 < r .count) (steps : (i : ℕ) → i < r .count → r .step i < c .actions) where
+    full-right : Right (repaired c (isIn (full c f))) r f
+    full-right = record {
+      needed = λ i l h. absurd (full-needs (r .step i) (steps i l) h);
+      wanted = λ g. at-end;
+    }
+      where
+        at-end : stateAt (repaired c (isIn (full c f))) r (r .count) f ≡ true
+        at-end =
+            let d : Cells = repaired c (isIn (full c f)) in
+            let i : ℕ = r .count - 1 in
+            let e : i + 1 ≡ r .count = omega arith in
+            ap (λ (j : ℕ). stateAt d r j f) (sym e) ∙ stateAt-next d r i f ∙
+            or-right (stateAt d r i f && not (d .deletes (r .step i) f)) (d .adds (r .step i) f) (full-adds (r .step i) (steps i (omega arith)))
+
+    full-keeps : Keeps c r f (full c f)
+    full-keeps = record { permitted = full-permitted; own = full-own; right = full-right }
+
+-- ---- all facts
+
+module _ (c : Cells) (r : Course) (actions : c .actions ≤ maxActions) (some : 0 < r .count)
+    (steps : (i : ℕ) → i < r .count → r .step i < c .actions) where
+  full-below : (n : ℕ) → n ≤ c .facts → (l : List ℕ) × KeepsBelow c r n l
+  full-below zero h = ([], keepsBelow-none c r)
+  full-below (suc n) h =
+      let p = full-below n (omega arith) in
+      (p .0 ++ full c n, join-keeps c r n (p .0) (full c n) (p .1) (full-keeps c actions n (omega arith) r some steps))
+
+  -- With a step, some list works.
+  pub step-works : Inside c r → (l : List ℕ) × Works c r l
+  step-works inside = let p = full-below (c .facts) (omega arith) in (p .0, keepsBelow-works c r inside (p .0) (p .1))

@@ -1,0 +1,278 @@
+-- Laws of the report: what one row more adds to the tally and to the room, and what the tally tells.
+-- Assumes nothing.
+use mathlib.Core.Bool.{Bool, true, false, cond, _||_}
+use mathlib.Core.List.{List, [], _∷_, _++_, append-assoc}
+use mathlib.Core.Path.{_≡_, refl, sym, ap, _∙_, subst}
+use Prim.Native.Nat.{ℕ, zero, suc, _+_, _-_, _*_, _<_, _≤_}
+use native.Mathlib.Omega.{arith}
+use lib.Dec.{eqb, leb, ltb}
+use lib.ListN.{length, getD, take, drop, length-append, length-drop}
+use lib.Seq.{getD-take, getD-drop, ext-getD, length-take-le, take-append-seam, drop-append-add, drop-drop}
+use borrow.Author.Tests.{eqb-true, eqb-false, leb-true, leb-false, le-leb, lt-leb, lt-ltb, le-ltb}
+use Rattle.search.specs.Rows.{rowOver, rowHopeless, verdictIn}
+use Rattle.table.specs.Answer.{Verdict, found, over, hopeless}
+use Rattle.table.specs.Join.{isHopeless, isOver, foundList, someBelow, joinLists, joinVerdicts}
+use Rattle.table.specs.Refusals.{accepted, noListWorks, overTheLimit, roomTooShort}
+use Rattle.table.specs.Sizes.{maxFacts, maxRow, rowPlaces, sessionPlaces}
+use Rattle.table.proofs.Bools.{by-order}
+use Rattle.table.proofs.JoinLaws.{someBelow-first, someBelow-next, joinLists-first, joinLists-next}
+use Rattle.table.specs.declared.Reply.{Reply}
+use Rattle.solve.specs.Copies.{pasted}
+use Rattle.solve.specs.Reports.{tallyOf}
+use Rattle.solve.specs.Solving.{Outcome, refused, answered, told}
+use Rattle.solve.specs.Tables.{rowAt, verdictAt, repairsIn, Readable}
+use Rattle.solve.specs.declared.report.Tally.{Tally}
+use Rattle.solve.proofs.CopyLaws.{pasted-length}
+use Rattle.solve.proofs.RowLaws.{row-number, row-length}
+
+-- ---- what the first number of a row says
+
+module _ (row : List ℕ) where
+  pub row-hopeless : isHopeless (verdictIn row) ≡ eqb (getD row 0 0) rowHopeless
+  unfolding verdictIn isHopeless
+  row-hopeless = pick (eqb (getD row 0 0) rowOver) (eqb (getD row 0 0) rowHopeless) refl refl
+    where
+      pick : (a b : Bool) → eqb (getD row 0 0) rowOver ≡ a → eqb (getD row 0 0) rowHopeless ≡ b
+          → isHopeless (cond {A = Verdict} a over (cond {A = Verdict} b hopeless (found (take (getD row 0 0) (drop 1 row))))) ≡ b
+      pick true true p q =
+          absurd (omega (arith, eqb-true (getD row 0 0) rowOver p, eqb-true (getD row 0 0) rowHopeless q))
+      pick true false p q = refl
+      pick false true p q = refl
+      pick false false p q = refl
+
+  pub row-over : isOver (verdictIn row) ≡ eqb (getD row 0 0) rowOver
+  unfolding verdictIn isOver
+  row-over = pick (eqb (getD row 0 0) rowOver) (eqb (getD row 0 0) rowHopeless)
+    where
+      pick : (a b : Bool)
+          → isOver (cond {A = Verdict} a over (cond {A = Verdict} b hopeless (found (take (getD row 0 0) (drop 1 row))))) ≡ a
+      pick true b = refl
+      pick false true = refl
+      pick false false = refl
+
+  pub repairs-low : repairsIn row ≤ maxRow
+  unfolding repairsIn
+  repairs-low =
+      by-order maxRow (getD row 0 0) (λ h. rw (lt-leb (getD row 0 0) maxRow h) (omega arith)) (λ h. rw (le-leb (getD row 0 0) maxRow h) h)
+
+  -- The list that a row says is as many of its numbers as it announces.
+  pub row-list : getD row 0 0 ≤ rowHopeless → foundList (verdictIn row) ≡ take (repairsIn row) (drop 1 row)
+  unfolding verdictIn repairsIn foundList
+  row-list h = pick (eqb (getD row 0 0) rowOver) (eqb (getD row 0 0) rowHopeless) (leb (getD row 0 0) maxRow) refl refl refl
+    where
+      between : maxRow < getD row 0 0 → (getD row 0 0 ≡ rowOver → ⊥) → (getD row 0 0 ≡ rowHopeless → ⊥) → ⊥
+      between l p q = by-order (getD row 0 0) rowHopeless (λ m. p (omega arith)) (λ m. q (omega arith))
+
+      pick : (a b d : Bool) → eqb (getD row 0 0) rowOver ≡ a → eqb (getD row 0 0) rowHopeless ≡ b → leb (getD row 0 0) maxRow ≡ d
+          → foundList (cond {A = Verdict} a over (cond {A = Verdict} b hopeless (found (take (getD row 0 0) (drop 1 row))))) ≡
+          take (cond d (getD row 0 0) 0) (drop 1 row)
+      pick true b true p q r = absurd (omega (arith, eqb-true (getD row 0 0) rowOver p, leb-true (getD row 0 0) maxRow r))
+      pick true b false p q r = refl
+      pick false true true p q r = absurd (omega (arith, eqb-true (getD row 0 0) rowHopeless q, leb-true (getD row 0 0) maxRow r))
+      pick false true false p q r = refl
+      pick false false true p q r = refl
+      pick false false false p q r =
+          absurd (between (leb-false (getD row 0 0) maxRow r) (eqb-false (getD row 0 0) rowOver p) (eqb-false (getD row 0 0) rowHopeless q))
+
+-- The numbers after the first stand in the table from the place after it on.
+pub row-tail : (s : List ℕ) (f n : ℕ) → n ≤ maxRow → rowPlaces * f + rowPlaces ≤ length s
+    → take n (drop 1 (rowAt s f)) ≡ take n (drop (rowPlaces * f + 1) s)
+row-tail s f n h fits =
+    let tail : n ≤ length (drop 1 (rowAt s f)) = omega (arith, length-drop 1 (rowAt s f), row-length s f fits) in
+    let rest : n ≤ length (drop (rowPlaces * f + 1) s) = omega (arith, length-drop (rowPlaces * f + 1) s) in
+    let p = length-take-le n (drop 1 (rowAt s f)) tail in
+    ext-getD 0 (take n (drop 1 (rowAt s f))) (take n (drop (rowPlaces * f + 1) s)) (p ∙ sym (length-take-le n (drop (rowPlaces * f + 1) s) rest))
+    (λ i k. at i (omega arith))
+  where
+    at : (i : ℕ) → i < n → getD (take n (drop 1 (rowAt s f))) i 0 ≡ getD (take n (drop (rowPlaces * f + 1) s)) i 0
+    at i k =
+        let e : rowPlaces * f + (1 + i) ≡ rowPlaces * f + 1 + i = omega arith in
+        getD-take n (drop 1 (rowAt s f)) i 0 k ∙ getD-drop 1 (rowAt s f) i 0 ∙ row-number s f (1 + i) (omega arith) ∙
+        ap (λ (j : ℕ). getD s j 0) e ∙ sym (getD-drop (rowPlaces * f + 1) s i 0) ∙ sym (getD-take n (drop (rowPlaces * f + 1) s) i 0 k)
+
+module _ (s : List ℕ) (n : ℕ) (low : n ≤ maxFacts) (r : Readable s n) (f : ℕ) (h : f < n) where
+  pub listed-at : foundList (verdictAt s f) ≡ take (repairsIn (rowAt s f)) (drop (rowPlaces * f + 1) s)
+  listed-at =
+      row-list (rowAt s f) (r .firsts f h) ∙
+      row-tail s f (repairsIn (rowAt s f)) (repairs-low (rowAt s f)) (omega (arith, r .places))
+
+  pub listed-length : length (foundList (verdictAt s f)) ≡ repairsIn (rowAt s f)
+  listed-length =
+      ap length listed-at ∙
+      length-take-le (repairsIn (rowAt s f)) (drop (rowPlaces * f + 1) s)
+      (omega (arith, repairs-low (rowAt s f), length-drop (rowPlaces * f + 1) s, r .places))
+
+-- ---- the tally, row by row
+
+-- The rows below f are tallied: one of them says 8, one says 7, and the sum of their lengths.
+pub record Tallied (s : List ℕ) (n : ℕ) (a b : Bool) (m f : ℕ) : Type 0 where
+  pub low : f ≤ n
+  pub hopeless : a ≡ someBelow (λ g. isHopeless (verdictAt s g)) f
+  pub over : b ≡ someBelow (λ g. isOver (verdictAt s g)) f
+  pub total : m ≡ length (joinLists (verdictAt s) f)
+  pub bound : m ≤ maxRow * f
+
+module _ (s : List ℕ) (n : ℕ) where
+  pub tallied-none : Tallied s n false false 0 0
+  tallied-none = record {
+    low = omega arith;
+    hopeless = sym (someBelow-first (λ g. isHopeless (verdictAt s g)));
+    over = sym (someBelow-first (λ g. isOver (verdictAt s g)));
+    total = sym (ap length (joinLists-first (verdictAt s)));
+    bound = omega arith;
+  }
+
+  -- The list of row f comes after those of the rows below.
+  joined-length : n ≤ maxFacts → Readable s n → (f : ℕ) → f < n
+      → length (joinLists (verdictAt s) (f + 1)) ≡ length (joinLists (verdictAt s) f) + repairsIn (rowAt s f)
+  joined-length low r f h =
+      ap length (joinLists-next (verdictAt s) f) ∙ length-append (joinLists (verdictAt s) f) (foundList (verdictAt s f)) ∙
+      ap (λ (k : ℕ). length (joinLists (verdictAt s) f) + k) (listed-length s n low r f h)
+
+  pub tallied-more : n ≤ maxFacts → Readable s n → (a b : Bool) (m f first count : ℕ) → f < n → first ≡ getD (rowAt s f) 0 0
+      → count ≡ repairsIn (rowAt s f) → Tallied s n a b m f
+      → Tallied s n (a || eqb first rowHopeless) (b || eqb first rowOver) (m + count) (f + 1)
+  tallied-more low r a b m f first count h e d t =
+      let p : eqb first rowHopeless ≡ isHopeless (verdictAt s f) =
+      ap (λ (x : ℕ). eqb x rowHopeless) e ∙ sym (row-hopeless (rowAt s f)) in
+      let q : eqb first rowOver ≡ isOver (verdictAt s f) = ap (λ (x : ℕ). eqb x rowOver) e ∙ sym (row-over (rowAt s f)) in
+      record {
+        low = omega arith;
+        hopeless = (λ j. t .hopeless j || p j) ∙ sym (someBelow-next (λ g. isHopeless (verdictAt s g)) f);
+        over = (λ j. t .over j || q j) ∙ sym (someBelow-next (λ g. isOver (verdictAt s g)) f);
+        total = (λ j. t .total j + d j) ∙ sym (joined-length low r f h);
+        bound = omega (arith, repairs-low (rowAt s f), t .bound);
+      }
+
+  pub tallied-end : (a b : Bool) (m f : ℕ) → n ≤ f → Tallied s n a b m f
+      → _≡_ {A = Tally} (record { hopeless = a; over = b; total = m }) (tallyOf s n)
+  unfolding tallyOf
+  tallied-end a b m f h t =
+      let e : f ≡ n = omega (arith, t .low) in
+      let q = subst (λ (g : ℕ). Tallied s n a b m g) e t in
+      λ j. record { hopeless = q .hopeless j; over = q .over j; total = q .total j }
+
+-- ---- the lists, one after another into the room
+
+-- Copying behind what stands there already.
+append-pasted : (l x before : List ℕ) (n : ℕ) → n ≤ length x
+    → pasted (l ++ drop (length l) before) (length l) x n ≡ (l ++ take n x) ++ drop (length (l ++ take n x)) before
+unfolding pasted
+append-pasted l x before n h =
+    let e : length (l ++ take n x) ≡ length l + n =
+    length-append l (take n x) ∙ ap (λ (k : ℕ). length l + k) (length-take-le n x h) in
+    let p = drop-append-add l (drop (length l) before) n ∙ drop-drop n (length l) before in
+    (λ j. (take-append-seam l (drop (length l) before) j ++ take n x) ++ p j) ∙
+    ap (λ (k : ℕ). (l ++ take n x) ++ drop k before) (sym e)
+
+joinLists-suc : (v : ℕ → Verdict) (n : ℕ) → joinLists v (suc n) ≡ joinLists v n ++ foundList (v n)
+unfolding joinLists
+joinLists-suc v n = refl
+
+-- More facts, no shorter a list.
+joinLists-longer : (v : ℕ → Verdict) (m n : ℕ) → m ≤ n → length (joinLists v m) ≤ length (joinLists v n)
+joinLists-longer v m zero h =
+    let e : m ≡ 0 = omega arith in
+    subst (λ (k : ℕ). length (joinLists v m) ≤ length (joinLists v k)) e (omega arith)
+joinLists-longer v m (suc n) h =
+    by-order m (suc n) (λ (l : m < suc n). omega (arith, joinLists-longer v m n (omega arith), ap length (joinLists-suc v n), length-append (joinLists v n) (foundList (v n)))) (λ (l : suc n ≤ m).
+    let e : m ≡ suc n = omega arith in
+    subst (λ (k : ℕ). length (joinLists v m) ≤ length (joinLists v k)) e (omega arith))
+
+-- The lists of the rows below f stand in the room from the first place on, and nothing beside.
+pub record Listed (s : List ℕ) (n : ℕ) (before after : List ℕ) (at f : ℕ) : Type 0 where
+  pub low : f ≤ n
+  pub place : at ≡ length (joinLists (verdictAt s) f)
+  pub places : length after ≡ length before
+  pub room : after ≡ joinLists (verdictAt s) f ++ drop (length (joinLists (verdictAt s) f)) before
+
+module _ (s : List ℕ) (n : ℕ) (before : List ℕ) where
+  pub listed-none : Listed s n before before 0 0
+  listed-none = record {
+    low = omega arith;
+    place = sym (ap length (joinLists-first (verdictAt s)));
+    places = refl;
+    room = sym (ap (λ (l : List ℕ). l ++ drop (length l) before) (joinLists-first (verdictAt s)));
+  }
+
+  module _ (low : n ≤ maxFacts) (r : Readable s n) (fits : length (joinLists (verdictAt s) n) ≤ length before) where
+    -- The next list fits.
+    pub listed-fits : (after : List ℕ) (at f : ℕ) → f < n → Listed s n before after at f → at + repairsIn (rowAt s f) ≤ length after
+    listed-fits after at f h t =
+        omega (arith, t .place, t .places, joined-length s n low r f h, joinLists-longer (verdictAt s) (f + 1) n (omega arith))
+
+    pub listed-more : (after u : List ℕ) (at f count : ℕ) → f < n → count ≡ repairsIn (rowAt s f)
+        → u ≡ pasted after at (drop (rowPlaces * f + 1) s) count → Listed s n before after at f → Listed s n before u (at + count) (f + 1)
+    listed-more after u at f count h d e t =
+        let x : List ℕ = drop (rowPlaces * f + 1) s in
+        let l : List ℕ = joinLists (verdictAt s) f in
+        let enough : count ≤ length x = omega (arith, d, repairs-low (rowAt s f), length-drop (rowPlaces * f + 1) s, r .places) in
+        let next : l ++ take count x ≡ joinLists (verdictAt s) (f + 1) =
+        ap (λ (k : ℕ). l ++ take k x) d ∙ ap (λ (y : List ℕ). l ++ y) (sym (listed-at s n low r f h)) ∙ sym (joinLists-next (verdictAt s) f) in
+        record {
+          low = omega arith;
+          place = (λ j. t .place j + d j) ∙ sym (joined-length s n low r f h);
+          places = ap length e ∙ pasted-length after at x count (omega (arith, d, listed-fits after at f h t)) enough ∙ t .places;
+          room = e ∙ (λ j. pasted (t .room j) (t .place j) x count) ∙ append-pasted l x before count enough ∙
+              ap (λ (y : List ℕ). y ++ drop (length y) before) next;
+        }
+
+  pub listed-end : (after : List ℕ) (at f : ℕ) → n ≤ f → Listed s n before after at f
+      → after ≡ joinLists (verdictAt s) n ++ drop (length (joinLists (verdictAt s) n)) before
+  listed-end after at f h t =
+      let e : f ≡ n = omega (arith, t .low) in
+      subst (λ (g : ℕ). Listed s n before after at g) e t .room
+
+-- ---- what the tally tells
+
+-- A refusal's reply, with the room as it was.
+pub refused-told : (k : ℕ) (r : Reply) (room : List ℕ) (o : Outcome) → r ≡ record { number = k; place = 0; length = 0 }
+    → o ≡ refused k room → _≡_ {A = Outcome} (record { reply = r; room = room }) o
+refused-told k r room o e d = (λ j. record { reply = e j; room = room }) ∙ sym d
+
+module _ (s : List ℕ) (n limit : ℕ) (room : List ℕ) (y : Tally) (e : y ≡ tallyOf s n) where
+  some-hopeless : y .hopeless ≡ someBelow (λ f. isHopeless (verdictAt s f)) n
+  unfolding tallyOf
+  some-hopeless = ap (λ (x : Tally). x .hopeless) e
+
+  some-over : y .over ≡ someBelow (λ f. isOver (verdictAt s f)) n
+  unfolding tallyOf
+  some-over = ap (λ (x : Tally). x .over) e
+
+  pub tally-total : y .total ≡ length (joinLists (verdictAt s) n)
+  unfolding tallyOf
+  tally-total = ap (λ (x : Tally). x .total) e
+
+  tally-over : (y .over || ltb limit (y .total)) ≡
+      (someBelow (λ f. isOver (verdictAt s f)) n || ltb limit (length (joinLists (verdictAt s) n)))
+  tally-over = λ j. some-over j || ltb limit (tally-total j)
+
+  pub told-hopeless : y .hopeless ≡ true → told (joinVerdicts (verdictAt s) n limit) room ≡ refused noListWorks room
+  unfolding told joinVerdicts
+  told-hopeless h = rw (sym some-hopeless ∙ h)
+
+  pub told-over : y .hopeless ≡ false → (y .over || ltb limit (y .total)) ≡ true
+      → told (joinVerdicts (verdictAt s) n limit) room ≡ refused overTheLimit room
+  unfolding told joinVerdicts
+  told-over h k = rw (sym some-hopeless ∙ h, sym tally-over ∙ k)
+
+  pub told-short : y .hopeless ≡ false → (y .over || ltb limit (y .total)) ≡ false → length room < y .total
+      → told (joinVerdicts (verdictAt s) n limit) room ≡ refused roomTooShort room
+  unfolding told joinVerdicts
+  told-short h k l =
+      let short : ltb (length room) (length (joinLists (verdictAt s) n)) ≡ true = lt-ltb (length room) (length (joinLists (verdictAt s) n)) (omega (arith, tally-total)) in
+      rw (sym some-hopeless ∙ h, sym tally-over ∙ k, short)
+
+  told-found : y .hopeless ≡ false → (y .over || ltb limit (y .total)) ≡ false → y .total ≤ length room
+      → told (joinVerdicts (verdictAt s) n limit) room ≡ answered (joinLists (verdictAt s) n) room
+  unfolding told joinVerdicts
+  told-found h k l =
+      let roomy : ltb (length room) (length (joinLists (verdictAt s) n)) ≡ false = le-ltb (length room) (length (joinLists (verdictAt s) n)) (omega (arith, tally-total)) in
+      rw (sym some-hopeless ∙ h, sym tally-over ∙ k, roomy)
+
+  pub answered-told : y .hopeless ≡ false → (y .over || ltb limit (y .total)) ≡ false → y .total ≤ length room → (after : List ℕ)
+      → after ≡ joinLists (verdictAt s) n ++ drop (length (joinLists (verdictAt s) n)) room
+      → _≡_ {A = Outcome} (record { reply = record { number = accepted; place = 0; length = y .total }; room = after })
+      (told (joinVerdicts (verdictAt s) n limit) room)
+  answered-told h k l after w =
+      (λ j. record { reply = record { number = accepted; place = 0; length = tally-total j }; room = w j }) ∙ sym (told-found h k l)

@@ -1,0 +1,38 @@
+-- Laws of solving: what each way out of it promises, and that the promise determines the outcome. Assumes nothing.
+use mathlib.Core.Bool.{Bool, true, false, true≢false}
+use mathlib.Core.List.{List}
+use mathlib.Core.Path.{_≡_, refl, sym, ap, _∙_}
+use Prim.Native.Nat.{ℕ}
+use Rattle.table.specs.Answer.{Verdict, Within}
+use Rattle.table.specs.Join.{joinVerdicts}
+use Rattle.table.specs.Refusals.{notWellFormed}
+use Rattle.table.specs.Tasks.{WorksFor, WellFormed, formed}
+use Rattle.table.specs.declared.Task.{Task}
+use Rattle.table.proofs.AnswerLaws.{within-unique}
+use Rattle.table.proofs.Formation.{well-formed}
+use Rattle.solve.specs.Solving.{Outcome, refused, told, Solves}
+use Rattle.solve.specs.Tables.{verdictAt, Stored}
+use Rattle.solve.proofs.RowLaws.{stored-within}
+
+module _ (t : Task) (room : List ℕ) where
+  pub solves-malformed : (o : Outcome) → formed t ≡ false → o ≡ refused notWellFormed room → Solves t room o
+  solves-malformed o h e = record { malformed = λ k. e; verdict = λ k. absurd (true≢false (sym k ∙ h)) }
+
+  -- The rows of a well-formed task, joined and told, are the solve.
+  pub solves-told : WellFormed t → (s : List ℕ) → Stored t s → (o : Outcome)
+      → o ≡ told (joinVerdicts (verdictAt s) (t .table .facts) (t .table .limit)) room → Solves t room o
+  solves-told w s b o e = record {
+    malformed = λ k. absurd (true≢false (sym (well-formed t w) ∙ k));
+    verdict = λ k. (joinVerdicts (verdictAt s) (t .table .facts) (t .table .limit), stored-within t w s b, e);
+  }
+
+  -- Two outcomes that meet the promise are equal.
+  pub solve-unique : (o p : Outcome) → Solves t room o → Solves t room p → o ≡ p
+  solve-unique o p a b = pick (formed t) refl
+    where
+      pick : (f : Bool) → formed t ≡ f → o ≡ p
+      pick false h = a .malformed h ∙ sym (b .malformed h)
+      pick true h =
+          let x = a .verdict h in
+          let y = b .verdict h in
+          x .2 ∙ ap (λ (v : Verdict). told v room) (within-unique (WorksFor t) (t .table .limit) (x .0) (y .0) (x .1) (y .1)) ∙ sym (y .2)

@@ -1,0 +1,20 @@
+-- `solve::report::repairs_at` meets its contract. Assumes nothing.
+use borrow.Author.Needs.{needs}
+use borrow.Author.Tests.{le-leb, lt-leb}
+use Rattle.solve.specs.Tables.{repairsIn}
+use Rattle.solve.proofs.report.repairs_at.Statement.{statement}
+use Rattle.solve.proofs.report.repairs_at.Tie as tie
+
+first-at-requires : tie.Need-first-at-requires
+first-at-requires c κs = search needs
+
+returns : tie.Need-returns
+unfolding repairsIn
+returns c = rw (← c .before .first-at .ensures, le-leb _ _ (c .if1 .taken))
+
+returns-2 : tie.Need-returns-2
+unfolding repairsIn
+returns-2 c = rw (← c .before .first-at .ensures, lt-leb _ _ (c .if1 .left))
+
+pub repairs-at-spec : {M : Type 1} → statement M
+repairs-at-spec = tie.close (tie.spec first-at-requires returns returns-2)

@@ -1,0 +1,76 @@
+-- `solve::report::write_lists` meets its contract: before turn f the lists of the rows below f are in the room. Assumes nothing.
+use Prim.Native.Nat.{_+_, _-_, _≤_}
+use borrow.Author.Needs.{needs}
+use native.Mathlib.Omega.{arith}
+use lib.ListN.{length}
+use Rattle.solve.specs.Tables.{rowAt, repairsIn}
+use Rattle.solve.proofs.ReportLaws.{repairs-low, Listed, listed-none, listed-fits, listed-more, listed-end}
+use Rattle.solve.proofs.report.write_lists.Statement.{statement}
+use Rattle.solve.proofs.report.write_lists.Tie as tie
+
+abbrev Inv-loop : tie.InvT-loop
+Inv-loop table facts room₀ at₀ f₀ room at f = Listed table facts room₀ room at f
+
+abbrev μ-loop : tie.MeasureT-loop
+μ-loop table facts room₀ at₀ f₀ room at f = facts - f
+
+loop-holds : tie.Need-loop-holds Inv-loop μ-loop
+loop-holds c = listed-none (c .before .before .args .table .now) (c .before .before .args .facts) (c .before .before .args .room .now)
+
+-- in a turn the next list fits
+next-fits : (c : tie.In-loop Inv-loop μ-loop)
+    → c .before .loop .at + repairsIn (rowAt (c .before .before .before .before .args .table .now) (c .before .loop .f)) ≤
+    length (c .before .loop .room)
+next-fits c =
+    let a = c .before .before .before .before in
+    listed-fits (a .args .table .now) (a .args .facts) (a .args .room .now) (a .pre .0) (a .pre .1 .0) (a .pre .1 .1) (c .before .loop .room)
+    (c .before .loop .at) (c .before .loop .f) (omega arith) (c .before .loop .inv)
+
+repairs-at-requires : tie.Need-repairs-at-requires Inv-loop μ-loop
+repairs-at-requires c κs = (c .before .before .before .before .pre .1 .0 .places, omega arith)
+
+mul-copy : tie.Need-mul-copy Inv-loop μ-loop
+mul-copy c = omega arith
+
+add-copy : tie.Need-add-copy Inv-loop μ-loop
+add-copy c = omega arith
+
+copy-requires : tie.Need-copy-requires Inv-loop μ-loop
+copy-requires c κs =
+    let a = c .before .before .before .before .before .before in (
+      omega (arith, c .before .repairs-at .ensures, repairs-low (rowAt (a .args .table .now) (c .before .before .before .loop .f)), a .pre .1 .0 .places),
+      omega (arith, c .before .repairs-at .ensures, next-fits (c .before .before)),
+    )
+
+add-at : tie.Need-add-at Inv-loop μ-loop
+add-at c =
+    let d = c .before .before .before .before in
+    omega (arith, d .repairs-at .ensures, next-fits (d .before), d .before .before .loop .inv .places)
+
+add-f : tie.Need-add-f Inv-loop μ-loop
+add-f c = omega arith
+
+loop-less : tie.Need-loop-less Inv-loop μ-loop
+loop-less c = omega arith
+
+loop-again : tie.Need-loop-again Inv-loop μ-loop
+loop-again c =
+    let d = c .before .before .before .before .before .before in
+    let a = d .before .before .before in
+    listed-more (a .args .table .now) (a .args .facts) (a .args .room .now) (a .pre .0) (a .pre .1 .0) (a .pre .1 .1) (d .loop .room)
+    (c .before .before .copy .last .1 .1 .1 .0) (d .loop .at) (d .loop .f) (c .before .before .before .before .repairs-at .result)
+    (omega arith) (c .before .before .before .before .repairs-at .ensures) (c .before .before .copy .ensures) (d .loop .inv)
+
+same-length : tie.Need-same-length Inv-loop μ-loop
+same-length c = c .before .loop .inv .places
+
+returns : tie.Need-returns Inv-loop μ-loop
+returns c =
+    let a = c .before .before .before .before .args in
+    listed-end (a .table .now) (a .facts) (a .room .now) (c .before .loop .room) (c .before .loop .at) (c .before .loop .f) (omega arith)
+    (c .before .loop .inv)
+
+pub write-lists-spec : {M : Type 1} → statement M
+write-lists-spec =
+    tie.close
+    (tie.spec Inv-loop μ-loop loop-holds repairs-at-requires mul-copy add-copy copy-requires add-at add-f loop-less loop-again same-length returns)

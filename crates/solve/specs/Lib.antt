@@ -1,0 +1,6 @@
+-- What solving promises, and the session table that it fills and reads.
+pub mod Copies
+pub mod Tables
+pub mod Reports
+pub mod Solving
+pub mod Stuck

@@ -1,0 +1,125 @@
+// Reading the list off the session table: "Listing joins the rows in order of fact: refusal 9 if a row says 8; else 10 if
+// a row says 7 or the lengths sum to more than L; else the joined list" (document 01, "The session table"). The rows are
+// tallied first, so that a refusal writes nothing.
+use crate::copying;
+use search::row;
+use table::ROW;
+use table::ROW_PLACES;
+use table::Reply;
+use table::Task;
+use table::refusals;
+ghost use mathlib.Core.List.{_++_};
+ghost use mathlib.Core.Path.{_≡_};
+ghost use Prim.Native.Nat.{_<_, _≤_};
+ghost use lib.ListN.{length, getD, drop};
+ghost use Rattle.table.specs.Join.{joinLists, joinVerdicts};
+ghost use Rattle.table.specs.Sizes.{maxFacts, sessionPlaces};
+ghost use Rattle.table.specs.Tasks.{WellFormed};
+ghost use Rattle.solve.specs.Reports.{tallyOf};
+ghost use Rattle.solve.specs.Solving.{Outcome, told};
+ghost use Rattle.solve.specs.Tables.{rowAt, verdictAt, repairsIn, Readable};
+
+// What the rows come to: does one say 8, does one say 7, and the sum of the lengths.
+struct Tally {
+    hopeless: bool,
+    over: bool,
+    total: usize,
+}
+
+// The first number of a fact's row.
+pub fn first_at(table: &[u16], f: usize) -> usize
+    requires { ⌜ length (now table) ≡ sessionPlaces ⌝ }
+    requires { ⌜ f < maxFacts ⌝ }
+    ensures { λ r. ⌜ r ≡ getD (rowAt (now (table .entry)) f) 0 0 ⌝ }
+{
+    table[ROW_PLACES * f] as usize
+}
+
+// How many repairs it announces.
+pub fn repairs_at(table: &[u16], f: usize) -> usize
+    requires { ⌜ length (now table) ≡ sessionPlaces ⌝ }
+    requires { ⌜ f < maxFacts ⌝ }
+    ensures { λ r. ⌜ r ≡ repairsIn (rowAt (now (table .entry)) f) ⌝ }
+{
+    let first = first_at(table, f);
+    if first <= ROW { first } else { 0 }
+}
+
+fn tally_rows(table: &[u16], facts: usize) -> Tally
+    requires { ⌜ facts ≤ maxFacts ⌝ }
+    requires { ⌜ Readable (now table) facts ⌝ }
+    ensures { λ r. ⌜ r ≡ tallyOf (now (table .entry)) facts ⌝ }
+{
+    let mut hopeless = false;
+    let mut over = false;
+    let mut total = 0;
+    for f in 0..facts {
+        let first = first_at(table, f);
+        hopeless = hopeless | (first == row::HOPELESS);
+        over = over | (first == row::OVER);
+        total = total + repairs_at(table, f);
+    }
+    Tally {
+        hopeless,
+        over,
+        total,
+    }
+}
+
+// The rows' lists one after another, from the first place on.
+fn write_lists(table: &[u16], facts: usize, room: &mut [u16])
+    requires { ⌜ facts ≤ maxFacts ⌝ }
+    requires { ⌜ Readable (now table) facts ⌝ }
+    requires { ⌜ length (joinLists (verdictAt (now table)) facts) ≤ length (now room) ⌝ }
+    ensures { λ _.
+        ⌜ now (room .exit) ≡
+        joinLists (verdictAt (now (table .entry))) facts ++
+        drop (length (joinLists (verdictAt (now (table .entry))) facts)) (now (room .entry)) ⌝ }
+{
+    let mut at = 0;
+    for f in 0..facts {
+        let count = repairs_at(table, f);
+        copying::copy(table, ROW_PLACES * f + 1, count, room, at);
+        at = at + count;
+    }
+}
+
+// A refusal at place 0.
+pub fn refusal(number: usize) -> Reply
+    ensures { λ r. ⌜ r ≡ record { number = number; place = 0; length = 0 } ⌝ }
+{
+    Reply {
+        number,
+        place: 0,
+        length: 0,
+    }
+}
+
+// The verdict that the rows join to, told into lent room.
+pub fn report(t: Task, table: &[u16], room: &mut [u16]) -> Reply
+    requires { ⌜ WellFormed t ⌝ }
+    requires { ⌜ Readable (now table) (t .table .facts) ⌝ }
+    ensures { λ r.
+        ⌜ _≡_ {A = Outcome} (record { reply = r; room = now (room .exit) })
+        (told (joinVerdicts (verdictAt (now (table .entry))) (t .table .facts) (t .table .limit)) (now (room .entry))) ⌝ }
+{
+    let facts = t.table.facts;
+    let limit = t.table.limit;
+    let tally = tally_rows(table, facts);
+    let total = tally.total;
+    if tally.hopeless {
+        return refusal(refusals::NO_LIST_WORKS);
+    }
+    if tally.over | (limit < total) {
+        return refusal(refusals::OVER_THE_LIMIT);
+    }
+    if room.len() < total {
+        return refusal(refusals::ROOM_TOO_SHORT);
+    }
+    write_lists(table, facts, room);
+    Reply {
+        number: refusals::ACCEPTED,
+        place: 0,
+        length: total,
+    }
+}
