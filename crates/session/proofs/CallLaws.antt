@@ -1,0 +1,224 @@
+-- Laws of the session's calls: which refusal is given, what each way out of a call promises, and that the promise determines the
+-- answer and what was lent. Assumes nothing.
+use mathlib.Core.Bool.{Bool, true, false, not, _&&_}
+use mathlib.Core.List.{List, [], _∷_}
+use mathlib.Core.Path.{_≡_, refl, sym, ap, _∙_, subst}
+use Prim.Native.Nat.{ℕ, _<_}
+use native.Mathlib.Omega.{arith}
+use lib.Dec.{eqb, ltb}
+use lib.ListN.{length}
+use borrow.Author.Tests.{eq-eqb, ne-eqb, eqb-true, eqb-false, ltb-true}
+use Rattle.change.specs.Editing.{edited, cellFact, cellInside}
+use Rattle.change.specs.declared.Cell.{Cell}
+use Rattle.change.specs.declared.Cell.the-variants.{Need, Add, Delete, Start, Goal}
+use Rattle.change.specs.declared.Edit.{Edit}
+use Rattle.solve.proofs.RowLaws.{stored-unique, rewritten-unique}
+use Rattle.solve.specs.Solving.{Outcome, refused, told}
+use Rattle.solve.specs.Tables.{verdictAt, Stored, Rewritten}
+use Rattle.table.proofs.FlagLaws.{and-right}
+use Rattle.table.proofs.Formation.{well-formed}
+use Rattle.table.specs.Refusals.{Refusal, Check, firstOf, refuse, none, accepted, notWellFormed, notASession, editOutside}
+use Rattle.table.specs.Join.{joinVerdicts}
+use Rattle.table.specs.Sizes.{maxFacts, sessionPlaces}
+use Rattle.table.specs.Tasks.{WellFormed, formed}
+use Rattle.table.specs.declared.Reply.{Reply}
+use Rattle.table.specs.declared.Task.{Task}
+use Rattle.session.specs.Calls.{openRefusal, Opens, editRefusal, Edits, listed, Story, told-all, then}
+use Rattle.session.specs.Sessions.{inForm}
+use Rattle.session.specs.declared.Edited.{Edited}
+
+-- ---- which refusal
+
+-- A refusal at place 0.
+abbrev at-zero : ℕ → Refusal
+at-zero n = record { number = n; place = 0 }
+
+-- Of two checks, and of three, none fires only if each test is passed.
+clear-two : (a b : Bool) → firstOf (refuse (not a) notWellFormed ∷ refuse (not b) notASession ∷ []) .number ≡ accepted → (a ≡ true) × (b ≡ true)
+unfolding firstOf
+clear-two true true h = (refl, refl)
+clear-two true false h = absurd (omega arith)
+clear-two false b h = absurd (omega arith)
+
+clear-three : (a b c : Bool) → firstOf (refuse (not a) notWellFormed ∷ refuse (not b) notASession ∷ refuse (not c) editOutside ∷ []) .number ≡ accepted
+    → (a ≡ true) × (b ≡ true) × (c ≡ true)
+unfolding firstOf
+clear-three true true true h = (refl, refl, refl)
+clear-three true true false h = absurd (omega arith)
+clear-three true false c h = absurd (omega arith)
+clear-three false b c h = absurd (omega arith)
+
+module _ (t : Task) (s : List ℕ) where
+  pub open-malformed : formed t ≡ false → openRefusal t s ≡ at-zero notWellFormed
+  unfolding openRefusal firstOf
+  open-malformed h = rw h
+
+  pub open-not-a-session : formed t ≡ true → (length s ≡ sessionPlaces → ⊥) → openRefusal t s ≡ at-zero notASession
+  unfolding openRefusal firstOf
+  open-not-a-session h n = rw (h, ne-eqb (length s) sessionPlaces n)
+
+  pub open-clear : formed t ≡ true → length s ≡ sessionPlaces → openRefusal t s ≡ none
+  unfolding openRefusal firstOf
+  open-clear h n = rw (h, eq-eqb (length s) sessionPlaces n)
+
+  pub open-accepted : openRefusal t s .number ≡ accepted → (formed t ≡ true) × (length s ≡ sessionPlaces)
+  unfolding openRefusal
+  open-accepted h =
+      let p = clear-two (formed t) (eqb (length s) sessionPlaces) h in
+      (p .0, eqb-true (length s) sessionPlaces (p .1))
+
+  module _ (e : Edit) where
+    pub edit-malformed : formed t ≡ false → editRefusal t s e ≡ at-zero notWellFormed
+    unfolding editRefusal firstOf
+    edit-malformed h = rw h
+
+    pub edit-not-a-session : formed t ≡ true → (length s ≡ sessionPlaces → ⊥) → editRefusal t s e ≡ at-zero notASession
+    unfolding editRefusal firstOf
+    edit-not-a-session h n = rw (h, ne-eqb (length s) sessionPlaces n)
+
+    pub edit-outside : formed t ≡ true → length s ≡ sessionPlaces → cellInside t (e .cell) ≡ false → editRefusal t s e ≡ at-zero editOutside
+    unfolding editRefusal firstOf
+    edit-outside h n o = rw (h, eq-eqb (length s) sessionPlaces n, o)
+
+    pub edit-clear : formed t ≡ true → length s ≡ sessionPlaces → cellInside t (e .cell) ≡ true → editRefusal t s e ≡ none
+    unfolding editRefusal firstOf
+    edit-clear h n o = rw (h, eq-eqb (length s) sessionPlaces n, o)
+
+    pub edit-accepted : editRefusal t s e .number ≡ accepted → (formed t ≡ true) × (length s ≡ sessionPlaces) × (cellInside t (e .cell) ≡ true)
+    unfolding editRefusal
+    edit-accepted h =
+        let p = clear-three (formed t) (eqb (length s) sessionPlaces) (cellInside t (e .cell)) h in
+        (p .0, eqb-true (length s) sessionPlaces (p .1), p .2)
+
+-- ---- what each way out of a call promises
+
+module _ (t : Task) (s : List ℕ) where
+  pub opens-refused : (n : ℕ) → 0 < n → openRefusal t s ≡ at-zero n → Opens t s (record { number = n; place = 0; length = 0 }) s
+  opens-refused n h e = record {
+    number = ap (λ (r : Refusal). r .number) (sym e);
+    place = ap (λ (r : Refusal). r .place) (sym e);
+    refused = λ k. (refl, refl);
+    opened = λ k. absurd (omega arith);
+  }
+
+  pub opens-opened : formed t ≡ true → length s ≡ sessionPlaces → (after : List ℕ) → Stored t after
+      → Opens t s (record { number = accepted; place = 0; length = sessionPlaces }) after
+  opens-opened h n after b = record {
+    number = ap (λ (r : Refusal). r .number) (sym (open-clear t s h n));
+    place = ap (λ (r : Refusal). r .place) (sym (open-clear t s h n));
+    refused = λ k. absurd (k refl);
+    opened = λ k. (refl, b);
+  }
+
+  pub edits-refused : (e : Edit) (n : ℕ) → 0 < n → editRefusal t s e ≡ at-zero n → Edits t s e (record { number = n; place = 0; task = t }) s
+  edits-refused e n h r = record {
+    number = ap (λ (r : Refusal). r .number) (sym r);
+    place = ap (λ (r : Refusal). r .place) (sym r);
+    refused = λ k. (refl, refl);
+    accepted = λ k. absurd (omega arith);
+  }
+
+  pub edits-done : (e : Edit) → formed t ≡ true → length s ≡ sessionPlaces → cellInside t (e .cell) ≡ true → {u : Task} {f : ℕ} {after : List ℕ}
+      → u ≡ edited t e → f ≡ cellFact (e .cell) → Rewritten u f s after → Edits t s e (record { number = accepted; place = 0; task = u }) after
+  edits-done e h n o {u} {f} {after} made fact w = record {
+    number = ap (λ (r : Refusal). r .number) (sym (edit-clear t s e h n o));
+    place = ap (λ (r : Refusal). r .place) (sym (edit-clear t s e h n o));
+    refused = λ k. absurd (k refl);
+    accepted = λ k.
+        (made, subst (λ (x : Task). Rewritten x (cellFact (e .cell)) s after) made (subst (λ (g : ℕ). Rewritten u g s after) fact w));
+  }
+
+of-fact : (t : Task) → WellFormed t → (f : ℕ) → ltb f (t .table .facts) ≡ true → f < maxFacts
+of-fact t w f h = omega (arith, w .facts-high, ltb-true f (t .table .facts) h)
+
+of-action : (t : Task) → WellFormed t → (a f : ℕ) → (ltb a (t .table .actions) && ltb f (t .table .facts)) ≡ true → f < maxFacts
+of-action t w a f h = of-fact t w f (and-right (ltb a (t .table .actions)) (ltb f (t .table .facts)) h)
+
+-- An edit inside names a fact that has a row.
+pub inside-low : (t : Task) → WellFormed t → (c : Cell) → cellInside t c ≡ true → cellFact c < maxFacts
+unfolding cellInside cellFact
+inside-low t w (Need a f) h = of-action t w a f h
+inside-low t w (Add a f) h = of-action t w a f h
+inside-low t w (Delete a f) h = of-action t w a f h
+inside-low t w (Start f) h = of-fact t w f h
+inside-low t w (Goal f) h = of-fact t w f h
+
+module _ (t : Task) (s room : List ℕ) where
+  pub listed-malformed : formed t ≡ false → listed t s room ≡ refused notWellFormed room
+  unfolding listed
+  listed-malformed h = rw h
+
+  pub listed-not-a-session : WellFormed t → inForm t s ≡ false → listed t s room ≡ refused notASession room
+  unfolding listed
+  listed-not-a-session w h = rw (well-formed t w, h)
+
+  pub listed-told : WellFormed t → inForm t s ≡ true
+      → listed t s room ≡ told (joinVerdicts (verdictAt s) (t .table .facts) (t .table .limit)) room
+  unfolding listed
+  listed-told w h = rw (well-formed t w, h)
+
+-- ---- one result
+
+same-reply : (r q : Reply) → r .number ≡ q .number → r .place ≡ q .place → r .length ≡ q .length → r ≡ q
+same-reply r q n p l = λ i. record { number = n i; place = p i; length = l i }
+
+same-edited : (r q : Edited) → r .number ≡ q .number → r .place ≡ q .place → r .task ≡ q .task → r ≡ q
+same-edited r q n p l = λ i. record { number = n i; place = p i; task = l i }
+
+-- Two results of opening that meet its promise on equal inputs are equal: number, place, length, and all numbers lent.
+pub opens-unique : (t : Task) (s : List ℕ) (r q : Reply) (after other : List ℕ) → Opens t s r after → Opens t s q other → (r ≡ q) × (after ≡ other)
+opens-unique t s r q after other a b = pick (eqb (r .number) accepted) refl
+  where
+    same : r .number ≡ q .number
+    same = a .number ∙ sym (b .number)
+
+    place : r .place ≡ q .place
+    place = a .place ∙ sym (b .place)
+
+    pick : (x : Bool) → eqb (r .number) accepted ≡ x → (r ≡ q) × (after ≡ other)
+    pick true h =
+        let e = eqb-true (r .number) accepted h in
+        let p = a .opened e in
+        let o = b .opened (sym same ∙ e) in
+        (same-reply r q same place (p .0 ∙ sym (o .0)), stored-unique t after other (p .1) (o .1))
+    pick false h =
+        let n = eqb-false (r .number) accepted h in
+        let p = a .refused n in
+        let o = b .refused (λ k. n (same ∙ k)) in
+        (same-reply r q same place (p .0 ∙ sym (o .0)), p .1 ∙ sym (o .1))
+
+-- The same of an edit: number, place, task, and all numbers lent.
+pub edits-unique : (t : Task) (s : List ℕ) (e : Edit) (r q : Edited) (after other : List ℕ) → Edits t s e r after → Edits t s e q other
+    → (r ≡ q) × (after ≡ other)
+edits-unique t s e r q after other a b = pick (eqb (r .number) accepted) refl
+  where
+    same : r .number ≡ q .number
+    same = a .number ∙ sym (b .number)
+
+    place : r .place ≡ q .place
+    place = a .place ∙ sym (b .place)
+
+    pick : (x : Bool) → eqb (r .number) accepted ≡ x → (r ≡ q) × (after ≡ other)
+    pick true h =
+        let n = eqb-true (r .number) accepted h in
+        let p = a .accepted n in
+        let o = b .accepted (sym same ∙ n) in
+        let long : length s ≡ sessionPlaces = edit-accepted t s e (sym (a .number) ∙ n) .1 in (
+          same-edited r q same place (p .0 ∙ sym (o .0)),
+          rewritten-unique (edited t e) (cellFact (e .cell)) s after other long (p .1) (o .1),
+        )
+    pick false h =
+        let n = eqb-false (r .number) accepted h in
+        let p = a .refused n in
+        let o = b .refused (λ k. n (same ∙ k)) in
+        (same-edited r q same place (p .0 ∙ sym (o .0)), p .1 ∙ sym (o .1))
+
+-- The same of a story: two stories of the same edits end with the same task and table.
+pub story-unique : (t : Task) (s : List ℕ) (es : List Edit) (u v : Task) (end other : List ℕ) → Story t s es u end → Story t s es v other
+    → (u ≡ v) × (end ≡ other)
+story-unique t s [] u v end other told-all told-all = (refl, refl)
+story-unique t s (e ∷ es) u v end other (then {r = r} {after = after} a story) (then {r = q} {after = before} b rest) =
+    let same = edits-unique t s e r q after before a b in
+    story-unique (r .task) after es u v end other story
+    (subst (λ (x : List ℕ). Story (r .task) x es v other) (sym (same .1))
+    (subst (λ (x : Edited). Story (x .task) before es v other) (sym (same .0)) rest))

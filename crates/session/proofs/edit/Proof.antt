@@ -1,0 +1,115 @@
+-- `session::edit` meets its contract: a law for each way out. Assumes nothing.
+use mathlib.Core.Bool.{true}
+use mathlib.Core.Path.{_≡_, sym, _∙_, subst}
+use borrow.Author.Needs.{needs}
+use borrow.Author.Tests.{not-true, not-false}
+use native.Mathlib.Omega.{arith}
+use Rattle.change.proofs.EditLaws.{edited-well}
+use Rattle.change.specs.Editing.{cellInside}
+use Rattle.table.proofs.Formation.{told-formed, told-unformed, well-formed}
+use Rattle.table.specs.Refusals.{notWellFormed, notASession, editOutside}
+use Rattle.table.specs.Tasks.{Shaped, WellFormed}
+use Rattle.session.proofs.CallLaws.{edit-malformed, edit-not-a-session, edit-outside, edits-refused, edits-done, inside-low}
+use Rattle.session.proofs.edit.Statement.{statement}
+use Rattle.session.proofs.edit.Tie as tie
+
+is-formed-requires : tie.Need-is-formed-requires
+is-formed-requires c κs = search needs
+
+refuse-edit-requires : tie.Need-refuse-edit-requires
+refuse-edit-requires c κs = search needs
+
+returns : tie.Need-returns
+returns c =
+    let a = c .before .before .before .before .args in
+    rw (c .refuse-edit .ensures)
+    (edits-refused (a .t) (a .table .now) (a .e) notWellFormed (omega arith)
+    (edit-malformed (a .t) (a .table .now) (a .e) (told-unformed (a .t) (c .before .before .is-formed .ensures) (c .before .if1 .taken))))
+
+-- the first test was passed
+well : (c : tie.Else1) → WellFormed (c .before .before .before .args .t)
+well c =
+    let shaped : Shaped (c .before .before .before .args .t) = search needs in
+    told-formed (c .before .before .before .args .t) shaped (c .before .is-formed .ensures) (c .if1 .left)
+
+refuse-edit-requires-2 : tie.Need-refuse-edit-requires-2
+refuse-edit-requires-2 c κs = search needs
+
+returns-2 : tie.Need-returns-2
+returns-2 c =
+    let d = c .before .before in
+    let a = d .before .before .before .args in
+    rw (c .refuse-edit2 .ensures)
+    (edits-refused (a .t) (a .table .now) (a .e) notASession (omega arith)
+    (edit-not-a-session (a .t) (a .table .now) (a .e) (well-formed (a .t) (well d)) (c .before .if2 .taken)))
+
+is-inside-requires : tie.Need-is-inside-requires
+is-inside-requires c κs = search needs
+
+refuse-edit-requires-3 : tie.Need-refuse-edit-requires-3
+refuse-edit-requires-3 c κs = search needs
+
+returns-3 : tie.Need-returns-3
+returns-3 c =
+    let inside = c .before .before .is-inside in
+    let e = c .before .before .before in
+    let d = e .before in
+    let a = d .before .before .before .args in
+    rw (c .refuse-edit3 .ensures)
+    (edits-refused (a .t) (a .table .now) (a .e) editOutside (omega arith)
+    (edit-outside (a .t) (a .table .now) (a .e) (well-formed (a .t) (well d)) (e .if2 .left)
+    (sym (inside .ensures) ∙ not-true (inside .result) (c .before .if3 .taken))))
+
+-- the third test was passed
+inside : (c : tie.Else3) → cellInside (c .before .before .before .before .before .before .args .t) (c .before .before .before .before .before .before .args .e .cell) ≡ true
+inside c = sym (c .before .is-inside .ensures) ∙ not-false (c .before .is-inside .result) (c .if3 .left)
+
+set-cell-requires : tie.Need-set-cell-requires
+set-cell-requires c κs = search needs
+
+cell-fact-requires : tie.Need-cell-fact-requires
+cell-fact-requires c κs = search needs
+
+put-row-requires : tie.Need-put-row-requires
+put-row-requires c κs =
+    let g = c .before .before .before in
+    let e = g .before .before in
+    let d = e .before in
+    let a = d .before .before .before .args in (
+      subst WellFormed (sym (c .before .before .set-cell .ensures)) (edited-well (a .t) (a .e) (well d) (inside g)),
+      (
+        omega (arith, c .before .cell-fact .ensures, inside-low (a .t) (well d) (a .e .cell) (inside g)),
+        e .if2 .left,
+      ),
+    )
+
+same-length : tie.Need-same-length
+same-length c = search needs
+
+returns-4 : tie.Need-returns-4
+returns-4 c =
+    let p = c .before .before in
+    let g = p .before .before .before .before in
+    let e = g .before .before in
+    let d = e .before in
+    let a = d .before .before .before .args in
+    edits-done (a .t) (a .table .now) (a .e) (well-formed (a .t) (well d)) (e .if2 .left) (inside g) (p .before .before .before .set-cell .ensures)
+    (p .before .before .cell-fact .ensures) (p .put-row .ensures)
+
+pub edit-spec : {M : Type 1} → statement M
+edit-spec =
+    tie.close
+    (tie.spec
+    is-formed-requires
+    refuse-edit-requires
+    returns
+    refuse-edit-requires-2
+    returns-2
+    is-inside-requires
+    refuse-edit-requires-3
+    returns-3
+    set-cell-requires
+    cell-fact-requires
+    put-row-requires
+    same-length
+    returns-4)

@@ -1,0 +1,65 @@
+-- `session::open` meets its contract: a law for each way out. Assumes nothing.
+use borrow.Author.Needs.{needs}
+use native.Mathlib.Omega.{arith}
+use Rattle.table.proofs.Formation.{told-formed, told-unformed, well-formed}
+use Rattle.table.specs.Refusals.{notWellFormed, notASession}
+use Rattle.table.specs.Tasks.{Shaped, WellFormed}
+use Rattle.session.proofs.CallLaws.{open-malformed, open-not-a-session, opens-refused, opens-opened}
+use Rattle.session.proofs.open.Statement.{statement}
+use Rattle.session.proofs.open.Tie as tie
+
+is-formed-requires : tie.Need-is-formed-requires
+is-formed-requires c κs = search needs
+
+refusal-requires : tie.Need-refusal-requires
+refusal-requires c κs = search needs
+
+returns : tie.Need-returns
+returns c =
+    let a = c .before .before .before .before .args in
+    rw (c .refusal .ensures)
+    (opens-refused (a .t) (a .table .now) notWellFormed (omega arith)
+    (open-malformed (a .t) (a .table .now) (told-unformed (a .t) (c .before .before .is-formed .ensures) (c .before .if1 .taken))))
+
+-- the test was passed
+well : (c : tie.Else1) → WellFormed (c .before .before .before .args .t)
+well c =
+    let shaped : Shaped (c .before .before .before .args .t) = search needs in
+    told-formed (c .before .before .before .args .t) shaped (c .before .is-formed .ensures) (c .if1 .left)
+
+refusal-requires-2 : tie.Need-refusal-requires-2
+refusal-requires-2 c κs = search needs
+
+returns-2 : tie.Need-returns-2
+returns-2 c =
+    let d = c .before .before in
+    let a = d .before .before .before .args in
+    rw (c .refusal2 .ensures)
+    (opens-refused (a .t) (a .table .now) notASession (omega arith)
+    (open-not-a-session (a .t) (a .table .now) (well-formed (a .t) (well d)) (c .before .if2 .taken)))
+
+fill-requires : tie.Need-fill-requires
+fill-requires c κs = (well (c .before .before), c .before .if2 .left)
+
+same-length : tie.Need-same-length
+same-length c = search needs
+
+returns-3 : tie.Need-returns-3
+returns-3 c =
+    let e = c .before .before .before .before in
+    let d = e .before in
+    let a = d .before .before .before .args in
+    opens-opened (a .t) (a .table .now) (well-formed (a .t) (well d)) (e .if2 .left) _ (c .before .before .fill .ensures)
+
+pub open-spec : {M : Type 1} → statement M
+open-spec =
+    tie.close
+    (tie.spec
+    is-formed-requires
+    refusal-requires
+    returns
+    refusal-requires-2
+    returns-2
+    fill-requires
+    same-length
+    returns-3)

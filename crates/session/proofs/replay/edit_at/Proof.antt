@@ -1,0 +1,77 @@
+-- `session::replay::edit_at` meets its contract: the four numbers are the definition's. Assumes nothing.
+use Prim.Native.Nat.{_+_}
+use borrow.Author.Needs.{needs}
+use native.Mathlib.Omega.{arith}
+use Rattle.session.specs.Replays.{editAt}
+use Rattle.session.proofs.replay.edit_at.Statement.{statement}
+use Rattle.session.proofs.replay.edit_at.Tie as tie
+
+mul-kind : tie.Need-mul-kind
+mul-kind c = search needs
+
+shared-slice-read-kind : tie.Need-shared-slice-read-kind
+shared-slice-read-kind c = search needs
+
+cast-kind : tie.Need-cast-kind
+cast-kind c = omega (arith, c .shared-slice-known2 .given (c .before .before .args .at))
+
+add-action : tie.Need-add-action
+add-action c = search needs
+
+mul-action : tie.Need-mul-action
+mul-action c = search needs
+
+shared-slice-read-action : tie.Need-shared-slice-read-action
+shared-slice-read-action c = search needs
+
+cast-action : tie.Need-cast-action
+cast-action c = omega (arith, c .shared-slice-known3 .given (c .before .before .before .args .at + 1))
+
+add-fact : tie.Need-add-fact
+add-fact c = search needs
+
+mul-fact : tie.Need-mul-fact
+mul-fact c = search needs
+
+shared-slice-read-fact : tie.Need-shared-slice-read-fact
+shared-slice-read-fact c = search needs
+
+cast-fact : tie.Need-cast-fact
+cast-fact c = omega (arith, c .shared-slice-known4 .given (c .before .before .before .before .args .at + 2))
+
+cell-of-requires : tie.Need-cell-of-requires
+cell-of-requires c κs = search needs
+
+add-present : tie.Need-add-present
+add-present c = search needs
+
+mul-present : tie.Need-mul-present
+mul-present c = search needs
+
+shared-slice-read-present : tie.Need-shared-slice-read-present
+shared-slice-read-present c = search needs
+
+returns : tie.Need-returns
+unfolding editAt
+returns c = rw (c .before .cell-of .ensures)
+
+pub edit-at-spec : {M : Type 1} → statement M
+edit-at-spec =
+    tie.close
+    (tie.spec
+    mul-kind
+    shared-slice-read-kind
+    cast-kind
+    add-action
+    mul-action
+    shared-slice-read-action
+    cast-action
+    add-fact
+    mul-fact
+    shared-slice-read-fact
+    cast-fact
+    cell-of-requires
+    add-present
+    mul-present
+    shared-slice-read-present
+    returns)

@@ -1,0 +1,76 @@
+-- `session::replay::replay` meets its contract: after i turns a story of the edits that are left is a story of all of them. Assumes nothing.
+use mathlib.Core.Path.{_≡_, refl}
+use Prim.Native.Nat.{_/_, _-_}
+use borrow.Author.Needs.{needs}
+use native.Mathlib.Omega.{arith}
+use lib.ListN.{length}
+use Rattle.session.specs.Replays.{editPlaces}
+use Rattle.session.proofs.ReplayLaws.{Replayed, replayed-none, replayed-more, replayed-end}
+use Rattle.session.proofs.replay.replay.Statement.{statement}
+use Rattle.session.proofs.replay.replay.Tie as tie
+
+abbrev Inv-loop : tie.InvT-loop
+Inv-loop table₀ edits count task₀ i₀ table task i = (count ≡ length edits / editPlaces) × Replayed task₀ table₀ edits i task table
+
+abbrev μ-loop : tie.MeasureT-loop
+μ-loop table₀ edits count task₀ i₀ table task i = count - i
+
+loop-holds : tie.Need-loop-holds Inv-loop μ-loop
+loop-holds c =
+    let a = c .before .before .args in
+    (refl, replayed-none (a .t) (a .table .now) (a .edits .now))
+
+mul-edit-at : tie.Need-mul-edit-at Inv-loop μ-loop
+mul-edit-at c = omega arith
+
+edit-at-requires : tie.Need-edit-at-requires Inv-loop μ-loop
+edit-at-requires c κs = omega arith
+
+edit-requires : tie.Need-edit-requires Inv-loop μ-loop
+edit-requires c κs = search needs
+
+add-i : tie.Need-add-i Inv-loop μ-loop
+add-i c =
+    let at = c .before .before .before .before .before .before in
+    omega (arith, at)
+
+loop-less : tie.Need-loop-less Inv-loop μ-loop
+loop-less c =
+    let at = c .before .before .before .before .before .before in
+    omega (arith, at)
+
+loop-again : tie.Need-loop-again Inv-loop μ-loop
+loop-again c =
+    let done = c .before .before .before .edit in
+    let d = c .before .before .before .before .before in
+    let at = d .before .before in
+    let a = at .before .before .before .args in (
+      refl,
+      replayed-more (a .t) (a .table .now) (a .edits .now) (at .loop .i) (at .loop .task) (at .loop .table) (d .edit-at .result) (done .result)
+          (done .last .1 .0) (omega (arith, d .before .loop-test .taken)) (at .loop .inv .1) (d .edit-at .ensures) (done .ensures),
+    )
+
+same-length : tie.Need-same-length Inv-loop μ-loop
+same-length c = c .before .loop .inv .1 .places
+
+returns : tie.Need-returns Inv-loop μ-loop
+returns c =
+    let a = c .before .before .before .before .args in
+    replayed-end (a .t) (a .table .now) (a .edits .now) (c .before .loop .i) (c .before .loop .task) (c .before .loop .table)
+    (omega (arith, c .loop-test .left)) (c .before .loop .inv .1)
+
+pub replay-spec : {M : Type 1} → statement M
+replay-spec =
+    tie.close
+    (tie.spec
+    Inv-loop
+    μ-loop
+    loop-holds
+    mul-edit-at
+    edit-at-requires
+    edit-requires
+    add-i
+    loop-less
+    loop-again
+    same-length
+    returns)

@@ -1,0 +1,71 @@
+-- What opening, editing and listing a session give, for every input; and demand 3's words.
+use mathlib.Core.Bool.{Bool, true, false, cond, not}
+use mathlib.Core.List.{List, [], _∷_}
+use mathlib.Core.Path.{_≡_}
+use Prim.Native.Nat.{ℕ}
+use lib.Dec.{eqb}
+use lib.ListN.{length}
+use Rattle.change.specs.Editing.{edited, cellFact, cellInside}
+use Rattle.change.specs.declared.Edit.{Edit}
+use Rattle.search.specs.Rows.{verdictIn}
+use Rattle.solve.specs.Solving.{Outcome, refused, told}
+use Rattle.solve.specs.Tables.{rowAt, Stored, Rewritten}
+use Rattle.table.specs.Join.{joinVerdicts}
+use Rattle.table.specs.Refusals.{Check, Refusal, firstOf, refuse, accepted, notWellFormed, notASession, editOutside}
+use Rattle.table.specs.Sizes.{sessionPlaces}
+use Rattle.table.specs.Tasks.{formed}
+use Rattle.table.specs.declared.Task.{Task}
+use Rattle.table.specs.declared.Reply.{Reply}
+use Rattle.session.specs.declared.Edited.{Edited}
+use Rattle.session.specs.Sessions.{inForm}
+
+-- The refusals of opening, in order: "Opening gives 12 or 13 only."
+unfoldable pub openRefusal : Task → List ℕ → Refusal
+openRefusal t s = firstOf (refuse (not (formed t)) notWellFormed ∷ refuse (not (eqb (length s) sessionPlaces)) notASession ∷ [])
+
+-- "Opening fills all rows"; a refusal writes nothing.
+pub record Opens (t : Task) (s : List ℕ) (r : Reply) (after : List ℕ) : Type 0 where
+  pub number : r .number ≡ openRefusal t s .number
+  pub place : r .place ≡ openRefusal t s .place
+  pub refused : (r .number ≡ accepted → ⊥) → (r .length ≡ 0) × (after ≡ s)
+  pub opened : r .number ≡ accepted → (r .length ≡ sessionPlaces) × Stored t after
+
+-- The refusals of an edit, in order.
+unfoldable pub editRefusal : Task → List ℕ → Edit → Refusal
+editRefusal t s e =
+    firstOf
+    (refuse (not (formed t)) notWellFormed ∷ refuse (not (eqb (length s) sessionPlaces)) notASession ∷
+    refuse (not (cellInside t (e .cell))) editOutside ∷ [])
+
+-- "It gives the edited task and writes the fact's row afresh; other rows are kept as found, right or not." A refused
+-- edit returns the task it was given and writes nothing.
+pub record Edits (t : Task) (s : List ℕ) (e : Edit) (r : Edited) (after : List ℕ) : Type 0 where
+  pub number : r .number ≡ editRefusal t s e .number
+  pub place : r .place ≡ editRefusal t s e .place
+  pub refused : (r .number ≡ accepted → ⊥) → (r .task ≡ t) × (after ≡ s)
+  pub accepted : r .number ≡ accepted → (r .task ≡ edited t e) × Rewritten (edited t e) (cellFact (e .cell)) s after
+
+-- "Listing joins the rows in order of fact: refusal 9 if a row says 8; else 10 if a row says 7 or the lengths sum to more
+-- than L; else the joined list." Before that 12, and 13 for a table that is not in form.
+unfoldable pub listed : Task → List ℕ → List ℕ → Outcome
+listed t s room =
+    cond {A = Outcome} (not (formed t)) (refused notWellFormed room)
+    (cond {A = Outcome} (not (inForm t s)) (refused notASession room)
+    (told (joinVerdicts (λ f. verdictIn (rowAt s f)) (t .table .facts) (t .table .limit)) room))
+
+-- A story of edits: each step is any result that the edit's contract allows.
+pub data Story : Task → List ℕ → List Edit → Task → List ℕ → Type 0 where
+  told-all : {t : Task} {s : List ℕ} → Story t s [] t s
+  then : {t : Task} {s : List ℕ} {e : Edit} {r : Edited} {after : List ℕ} {es : List Edit} {u : Task} {end : List ℕ}
+      → Edits t s e r after → Story (r .task) after es u end → Story t s (e ∷ es) u end
+
+-- "the table as the accepted edits make it one after another"
+unfoldable pub madeBy : Task → List Edit → Task
+madeBy t [] = t
+madeBy t (e ∷ es) = cond {A = Task} (cellInside t (e .cell)) (madeBy (edited t e) es) (madeBy t es)
+
+-- An accepted edit of the story names fact f.
+unfoldable pub names : Task → List Edit → ℕ → Bool
+names t [] f = false
+names t (e ∷ es) f =
+    cond (cellInside t (e .cell)) (cond (eqb (cellFact (e .cell)) f) true (names (edited t e) es f)) (names t es f)

@@ -1,0 +1,88 @@
+// The edit session: opening, editing and listing (document 01, "The session table").
+pub mod form;
+pub mod replay;
+
+use change::Edit;
+use change::editing;
+use solve::report;
+use solve::rows;
+use table::Reply;
+use table::SESSION_PLACES;
+use table::Task;
+use table::formed;
+use table::refusals;
+ghost use mathlib.Core.Path.{_≡_};
+ghost use Rattle.solve.specs.Solving.{Outcome};
+ghost use Rattle.session.specs.Calls.{Opens, Edits, listed};
+
+// What an edit gives: 0, 0 and the edited task, or the refusal and the task given.
+pub struct Edited {
+    pub number: usize,
+    pub place: usize,
+    pub task: Task,
+}
+
+// Opens a session: 12, 13 for another length, else "Opening fills all rows".
+pub fn open(t: Task, table: &mut [u16]) -> Reply
+    ensures { λ r. ⌜ Opens t (now (table .entry)) r (now (table .exit)) ⌝ }
+{
+    if !formed::is_formed(t) {
+        return report::refusal(refusals::NOT_WELL_FORMED);
+    }
+    if table.len() != SESSION_PLACES {
+        return report::refusal(refusals::NOT_A_SESSION);
+    }
+    rows::fill(t, table);
+    Reply {
+        number: refusals::ACCEPTED,
+        place: 0,
+        length: SESSION_PLACES,
+    }
+}
+
+// A refused edit "returns the task it was given".
+fn refuse_edit(t: Task, number: usize) -> Edited
+    ensures { λ r. ⌜ r ≡ record { number = number; place = 0; task = t } ⌝ }
+{
+    Edited {
+        number,
+        place: 0,
+        task: t,
+    }
+}
+
+// One edit: 12, 13 for another length, 14, else the edited task with the fact's row written afresh; it costs one row.
+pub fn edit(t: Task, table: &mut [u16], e: Edit) -> Edited
+    ensures { λ r. ⌜ Edits t (now (table .entry)) e r (now (table .exit)) ⌝ }
+{
+    if !formed::is_formed(t) {
+        return refuse_edit(t, refusals::NOT_WELL_FORMED);
+    }
+    if table.len() != SESSION_PLACES {
+        return refuse_edit(t, refusals::NOT_A_SESSION);
+    }
+    if !editing::is_inside(t, e) {
+        return refuse_edit(t, refusals::EDIT_OUTSIDE);
+    }
+    let task = editing::set_cell(t, e);
+    let fact = editing::cell_fact(e);
+    rows::put_row(task, fact, table);
+    Edited {
+        number: refusals::ACCEPTED,
+        place: 0,
+        task,
+    }
+}
+
+// Lists the session: 12, 13 for a table that is not in form, else the rows joined: 9, 10, 11, or the list.
+pub fn list(t: Task, table: &[u16], room: &mut [u16]) -> Reply
+    ensures { λ r. ⌜ _≡_ {A = Outcome} (record { reply = r; room = now (room .exit) }) (listed t (now (table .entry)) (now (room .entry))) ⌝ }
+{
+    if !formed::is_formed(t) {
+        return report::refusal(refusals::NOT_WELL_FORMED);
+    }
+    if !form::is_in_form(t, table) {
+        return report::refusal(refusals::NOT_A_SESSION);
+    }
+    report::report(t, table, room)
+}
