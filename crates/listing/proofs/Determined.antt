@@ -1,0 +1,62 @@
+-- The listing of an input is one text, which fits in `longestText`; and what is told of it into lent room is one outcome.
+-- Assumes nothing.
+use mathlib.Core.Bool.{Bool, true, false, cond}
+use mathlib.Core.List.{List, [], _∷_}
+use mathlib.Core.Path.{_≡_, refl, sym, ap, _∙_, subst}
+use Prim.Native.Nat.{ℕ, zero, suc, _≤_, zero-le}
+use native.Mathlib.Omega.{arith}
+use borrow.Author.Tests.{le-ltb, ltb-false}
+use lib.Dec.{ltb}
+use lib.ListN.{length, take}
+use Rattle.table.specs.Refusals.{roomTooShort}
+use Rattle.runcheck.specs.OpenNeeds.{checked}
+use Rattle.solve.specs.Solving.{Outcome, refused, answered, Solves}
+use Rattle.solve.proofs.SolveLaws.{solve-unique}
+use Rattle.taskfile.specs.declared.TaskRead.{TaskRead}
+use Rattle.taskfile.proofs.Unique.{reads-unique}
+use Rattle.listing.specs.Text.{textOf, longestText}
+use Rattle.listing.specs.Listing.{answerRoom, Lists, given, ListsInto}
+use Rattle.listing.proofs.TextLaws.{solved-fits}
+use Rattle.listing.proofs.TextLength.{text-most}
+
+pub text-unique : {input text other : List ℕ} → Lists input text → Lists input other → text ≡ other
+text-unique a b =
+    let e = reads-unique (a .reads) (b .reads) in
+    let s = subst (λ (r : TaskRead). Solves (r .task) answerRoom (b .solved)) (sym e) (b .solves) in
+    let f = solve-unique (a .read .task) answerRoom (a .solved) (b .solved) (a .solves) s in
+    a .text-is ∙ ap (λ (r : TaskRead). textOf r (checked (r .task)) (a .solved)) e ∙
+    ap (λ (o : Outcome). textOf (b .read) (checked (b .read .task)) o) f ∙ sym (b .text-is)
+
+-- Two outcomes of listing an input into a room are equal.
+pub listing-unique : {input room : List ℕ} {o p : Outcome} → ListsInto input room o → ListsInto input room p → o ≡ p
+listing-unique {input} {room} a b =
+    a .outcome ∙ ap (λ (t : List ℕ). given t room) (text-unique (a .lists) (b .lists)) ∙ sym (b .outcome)
+
+take-most : (n : ℕ) (l : List ℕ) → length (take n l) ≤ n
+take-most zero l = zero-le
+take-most (suc n) [] = zero-le
+take-most (suc n) (x ∷ l) = omega (arith, take-most n l)
+
+pub text-fits : {input text : List ℕ} → Lists input text → length text ≤ longestText
+text-fits a =
+    let o = a .solved in
+    rw (a .text-is)
+    (text-most (a .read) (checked (a .read .task)) o (omega (arith, take-most (o .reply .length) (o .room), solved-fits (a .solves))))
+
+-- In room for the longest text the listing is never refused.
+pub always-listed : {input room : List ℕ} {o : Outcome} → longestText ≤ length room → (a : ListsInto input room o)
+    → o ≡ answered (a .text) room
+unfolding given
+always-listed {input} {room} h a =
+    let fits = text-fits (a .lists) in
+    a .outcome ∙ rw (le-ltb (length room) (length (a .text)) (omega arith))
+
+-- What is told to have been written lies in the room.
+pub listed-within : {input room : List ℕ} {o : Outcome} → ListsInto input room o → o .reply .length ≤ length room
+unfolding given
+listed-within {input} {room} a = rw (a .outcome) (fits (ltb (length room) (length (a .text))) refl)
+  where
+    fits : (b : Bool) → ltb (length room) (length (a .text)) ≡ b
+        → cond {A = Outcome} b (refused roomTooShort room) (answered (a .text) room) .reply .length ≤ length room
+    fits true e = omega arith
+    fits false e = omega (arith, ltb-false (length room) (length (a .text)) e)

@@ -1,0 +1,10 @@
+-- The laws of the listing.
+pub mod EachLaws
+pub mod Putting
+pub mod DigitLaws
+pub mod LineLaws
+pub mod TextLength
+pub mod TextLaws
+pub mod Determined
+pub mod Decimals
+pub mod Printed

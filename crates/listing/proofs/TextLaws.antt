@@ -1,0 +1,89 @@
+-- The text by cases, and what is told of it into lent room. Assumes nothing.
+use mathlib.Core.Bool.{Bool, true, false, cond}
+use mathlib.Core.List.{List, _++_}
+use mathlib.Core.Path.{_≡_, refl, sym, ap, _∙_}
+use Prim.Native.Nat.{ℕ, _+_, _≤_, _<_}
+use native.Mathlib.Omega.{arith}
+use borrow.Author.Tests.{eq-eqb, ne-eqb, lt-ltb, le-ltb, ltb-false}
+use lib.Dec.{ltb}
+use lib.ListN.{length, take}
+use Rattle.table.specs.Answer.{Verdict, found, over, hopeless}
+use Rattle.table.specs.Refusals.{accepted, roomTooShort}
+use Rattle.table.specs.Tasks.{formed}
+use Rattle.table.specs.declared.Reply.{Reply}
+use Rattle.table.specs.declared.Task.{Task}
+use Rattle.runcheck.specs.OpenNeeds.{checked}
+use Rattle.runcheck.specs.declared.Checked.{Checked}
+use Rattle.solve.specs.Solving.{Outcome, refused, answered, told, Solves}
+use Rattle.taskfile.specs.Reading.{ReadsFile}
+use Rattle.taskfile.specs.declared.TaskRead.{TaskRead}
+use Rattle.taskwriter.specs.Placing.{Placed}
+use Rattle.taskwriter.proofs.PlacingLaws.{placed-more, placed-whole}
+use Rattle.listing.specs.Text.{refusedLine, firstLines, answerLines, readText, textOf}
+use Rattle.listing.specs.Listing.{answerRoom, Lists, given, ListsInto}
+
+-- ---- the text as it is placed: a refused file, a refused solve, an answer
+
+module _ (r : TaskRead) (c : Checked) (o : Outcome) {a b : List ℕ} {next : ℕ} where
+  pub refused-placed : 0 < r .number → Placed a b 0 next (refusedLine (r .number) (r .place)) → Placed a b 0 next (textOf r c o)
+  unfolding textOf
+  refused-placed h p = rw (ne-eqb (r .number) accepted (λ e. omega arith)) p
+
+  module _ {m : List ℕ} {k : ℕ} (good : r .number ≡ accepted) (p : Placed a m 0 k (firstLines (r .task) c)) where
+    pub unsolved-placed : 0 < o .reply .number → Placed m b k next (refusedLine (o .reply .number) (o .reply .place))
+        → Placed a b 0 next (textOf r c o)
+    unfolding textOf readText
+    unsolved-placed h q =
+        rw (eq-eqb (r .number) accepted good, ne-eqb (o .reply .number) accepted (λ e. omega arith)) (placed-more p q)
+
+    pub solved-placed : o .reply .number ≡ accepted → Placed m b k next (answerLines (take (o .reply .length) (o .room)))
+        → Placed a b 0 next (textOf r c o)
+    unfolding textOf readText
+    solved-placed h q = rw (eq-eqb (r .number) accepted good, eq-eqb (o .reply .number) accepted h) (placed-more p q)
+
+-- ---- the text told
+
+module _ (text room : List ℕ) where
+  pub told-short : (r : Reply) → r ≡ record { number = roomTooShort; place = 0; length = 0 } → length room < length text
+      → _≡_ {A = Outcome} (record { reply = r; room = room }) (given text room)
+  unfolding given
+  told-short r e h = rw (lt-ltb (length room) (length text) h, e)
+
+  pub told-whole : (after : List ℕ) (next : ℕ) → Placed room after 0 next text → length text ≤ length room
+      → _≡_ {A = Outcome} (record { reply = record { number = accepted; place = 0; length = next }; room = after }) (given text room)
+  unfolding given
+  told-whole after next p h =
+      let e : next ≡ length text = omega (arith, p .next-is) in
+      rw (le-ltb (length room) (length text) h, e, placed-whole p h)
+
+-- ---- what solving leaves in its room
+
+module _ {t : Task} {room : List ℕ} {o : Outcome} (s : Solves t room o) where
+  -- The answer fits the room that it was written into.
+  pub solved-fits : o .reply .length ≤ length room
+  unfolding told
+  solved-fits = pick (formed t) refl
+    where
+      fits : (l : List ℕ) (b : Bool) → ltb (length room) (length l) ≡ b
+          → cond {A = Outcome} b (refused roomTooShort room) (answered l room) .reply .length ≤ length room
+      fits l true e = omega arith
+      fits l false e = omega (arith, ltb-false (length room) (length l) e)
+
+      tells : (v : Verdict) → told v room .reply .length ≤ length room
+      tells (found l) = fits l (ltb (length room) (length l)) refl
+      tells over = omega arith
+      tells hopeless = omega arith
+
+      pick : (b : Bool) → formed t ≡ b → o .reply .length ≤ length room
+      pick false h = rw (s .malformed h) (omega arith)
+      pick true h = let v = s .verdict h in rw (v .2) (tells (v .0))
+
+-- ---- reading, checking, solving and telling are the listing
+
+pub listed : {input room : List ℕ} {o out : Outcome} (r : TaskRead) (c : Checked) → ReadsFile input r → c ≡ checked (r .task)
+    → Solves (r .task) answerRoom o → out ≡ given (textOf r c o) room → ListsInto input room out
+listed {input} {room} {o} {out} r c reads e solves g = record {
+  text = textOf r c o;
+  lists = record { read = r; reads = reads; solved = o; solves = solves; text-is = ap (λ (x : Checked). textOf r x o) e };
+  outcome = g;
+}

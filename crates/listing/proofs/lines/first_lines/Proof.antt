@@ -1,0 +1,48 @@
+-- `first_lines`: the sizes' line and the run check's.
+use Rattle.taskwriter.proofs.PlacingLaws.{placed-more}
+use Rattle.listing.proofs.TextLength.{task-fits, open-fits}
+use borrow.Author.Needs.{needs}
+use Rattle.listing.proofs.lines.first_lines.Statement.{statement}
+use Rattle.listing.proofs.lines.first_lines.Tie as tie
+
+slice-aggregate-put-line : tie.Need-slice-aggregate-put-line
+slice-aggregate-put-line c = search needs
+
+slice-aggregate-put-line-2 : tie.Need-slice-aggregate-put-line-2
+slice-aggregate-put-line-2 c = search needs
+
+put-line-requires : tie.Need-put-line-requires
+put-line-requires c κs = task-fits (c .before .before .before .before .before .args .task)
+
+slice-aggregate-put-line-3 : tie.Need-slice-aggregate-put-line-3
+slice-aggregate-put-line-3 c = search needs
+
+slice-aggregate-put-line-4 : tie.Need-slice-aggregate-put-line-4
+slice-aggregate-put-line-4 c = search needs
+
+put-line-requires-2 : tie.Need-put-line-requires-2
+put-line-requires-2 c κs =
+    let z = c .before .before .before .before .before in
+    let a = z .before .before .before .before .before .before .args in
+    open-fits (a .task) (a .found) (z .put-line .result) (z .put-line .ensures .next-is)
+
+same-length : tie.Need-same-length
+same-length c = search needs
+
+returns : tie.Need-returns
+returns c =
+    let z = c .before .before in
+    placed-more (z .before .before .before .before .before .before .put-line .ensures) (z .put-line2 .ensures)
+
+pub first-lines-spec : {M : Type 1} → statement M
+first-lines-spec =
+    tie.close
+    (tie.spec
+    slice-aggregate-put-line
+    slice-aggregate-put-line-2
+    put-line-requires
+    slice-aggregate-put-line-3
+    slice-aggregate-put-line-4
+    put-line-requires-2
+    same-length
+    returns)

@@ -1,0 +1,63 @@
+-- `repair_lines`: one line for each repair.
+use Prim.Native.Nat.{_-_}
+use native.Mathlib.Omega.{arith}
+use borrow.Author.Needs.{needs}
+use Rattle.listing.specs.Text.{repairLine}
+use Rattle.listing.proofs.Putting.{Putting, begun, next-fits, one-more, all-placed, length-kept}
+use Rattle.listing.proofs.lines.repair_lines.Statement.{statement}
+use Rattle.listing.proofs.lines.repair_lines.Tie as tie
+
+abbrev Inv-loop : tie.InvT-loop
+Inv-loop room₀ at list next₀ i₀ i-end room next i = Putting repairLine list room₀ room at next i
+
+abbrev μ-loop : tie.MeasureT-loop
+μ-loop room₀ at list next₀ i₀ i-end room next i = i-end - i
+
+loop-holds : tie.Need-loop-holds Inv-loop μ-loop
+loop-holds c = begun _ _ _ _ (c .before .before .pre)
+
+mul-repair-line : tie.Need-mul-repair-line Inv-loop μ-loop
+mul-repair-line c = search needs
+
+shared-slice-read-repair-line : tie.Need-shared-slice-read-repair-line Inv-loop μ-loop
+shared-slice-read-repair-line c = search needs
+
+cast-repair-line : tie.Need-cast-repair-line Inv-loop μ-loop
+cast-repair-line c = omega (arith, c .shared-slice-known2 .given (c .before .before .before .loop .i))
+
+repair-line-requires : tie.Need-repair-line-requires Inv-loop μ-loop
+repair-line-requires c κs = next-fits (c .before .before .before .loop .inv) (search needs)
+
+add-i : tie.Need-add-i Inv-loop μ-loop
+add-i c = omega arith
+
+loop-less : tie.Need-loop-less Inv-loop μ-loop
+loop-less c = omega arith
+
+loop-again : tie.Need-loop-again Inv-loop μ-loop
+loop-again c =
+    let z = c .before .before .before .before .before in
+    one-more (z .before .loop .inv) (search needs) (c .before .before .repair-line .ensures)
+
+same-length : tie.Need-same-length Inv-loop μ-loop
+same-length c = length-kept (c .before .loop .inv)
+
+returns : tie.Need-returns Inv-loop μ-loop
+returns c = all-placed (c .before .loop .inv) (search needs)
+
+pub repair-lines-spec : {M : Type 1} → statement M
+repair-lines-spec =
+    tie.close
+    (tie.spec
+    Inv-loop
+    μ-loop
+    loop-holds
+    mul-repair-line
+    shared-slice-read-repair-line
+    cast-repair-line
+    repair-line-requires
+    add-i
+    loop-less
+    loop-again
+    same-length
+    returns)

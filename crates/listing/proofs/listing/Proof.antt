@@ -1,0 +1,46 @@
+-- `listing`: read, checked, solved and told.
+use native.Mathlib.Omega.{arith}
+use Rattle.listing.proofs.TextLaws.{solved-fits, listed}
+use borrow.Author.Needs.{needs}
+use Rattle.listing.proofs.listing.Statement.{statement}
+use Rattle.listing.proofs.listing.Tie as tie
+
+read-requires : tie.Need-read-requires
+read-requires c κs = search needs
+
+check-run-requires : tie.Need-check-run-requires
+check-run-requires c κs = search needs
+
+slice-aggregate-solve : tie.Need-slice-aggregate-solve
+slice-aggregate-solve c = search needs
+
+solve-requires : tie.Need-solve-requires
+solve-requires c κs = search needs
+
+slice-aggregate-tell : tie.Need-slice-aggregate-tell
+slice-aggregate-tell c = search needs
+
+tell-requires : tie.Need-tell-requires
+tell-requires c κs = (omega (arith, solved-fits (c .before .before .before .solve .ensures)), search needs)
+
+same-length : tie.Need-same-length
+same-length c = search needs
+
+returns : tie.Need-returns
+returns c =
+    let z = c .before .before .before .before .before .before .before .before in
+    let y = z .before .before in
+    listed (y .read .result) (z .check-run .result) (y .read .ensures) (z .check-run .ensures) (c .before .before .before .before .before .before .solve .ensures) (c .before .before .tell .ensures)
+
+pub listing-spec : {M : Type 1} → statement M
+listing-spec =
+    tie.close
+    (tie.spec
+    read-requires
+    check-run-requires
+    slice-aggregate-solve
+    solve-requires
+    slice-aggregate-tell
+    tell-requires
+    same-length
+    returns)

@@ -1,0 +1,20 @@
+-- `put_field`: a space and the digits.
+use Rattle.taskwriter.proofs.PlacingLaws.{placed-more}
+use borrow.Author.Needs.{needs}
+use Rattle.listing.proofs.room.put_field.Statement.{statement}
+use Rattle.listing.proofs.room.put_field.Tie as tie
+
+put-requires : tie.Need-put-requires
+put-requires c κs = search needs
+
+put-digits-requires : tie.Need-put-digits-requires
+put-digits-requires c κs = search needs
+
+same-length : tie.Need-same-length
+same-length c = search needs
+
+returns : tie.Need-returns
+returns c = placed-more (c .before .before .before .before .before .before .put .ensures) (c .before .before .put-digits .ensures)
+
+pub put-field-spec : {M : Type 1} → statement M
+put-field-spec = tie.close (tie.spec put-requires put-digits-requires same-length returns)

@@ -1,0 +1,59 @@
+-- `put_fields`: one field after another.
+use Prim.Native.Nat.{_-_}
+use native.Mathlib.Omega.{arith}
+use borrow.Author.Needs.{needs}
+use Rattle.listing.specs.Text.{field}
+use Rattle.listing.proofs.Putting.{Putting, begun, next-fits, one-more, all-placed, length-kept}
+use Rattle.listing.proofs.room.put_fields.Statement.{statement}
+use Rattle.listing.proofs.room.put_fields.Tie as tie
+
+abbrev Inv-loop : tie.InvT-loop
+Inv-loop room₀ at numbers next₀ i₀ i-end room next i = Putting field numbers room₀ room at next i
+
+abbrev μ-loop : tie.MeasureT-loop
+μ-loop room₀ at numbers next₀ i₀ i-end room next i = i-end - i
+
+loop-holds : tie.Need-loop-holds Inv-loop μ-loop
+loop-holds c = begun _ _ _ _ (c .before .before .pre)
+
+mul-put-field : tie.Need-mul-put-field Inv-loop μ-loop
+mul-put-field c = search needs
+
+shared-slice-read-put-field : tie.Need-shared-slice-read-put-field Inv-loop μ-loop
+shared-slice-read-put-field c = search needs
+
+put-field-requires : tie.Need-put-field-requires Inv-loop μ-loop
+put-field-requires c κs = next-fits (c .before .before .before .loop .inv) (search needs)
+
+add-i : tie.Need-add-i Inv-loop μ-loop
+add-i c = omega arith
+
+loop-less : tie.Need-loop-less Inv-loop μ-loop
+loop-less c = omega arith
+
+loop-again : tie.Need-loop-again Inv-loop μ-loop
+loop-again c =
+    let z = c .before .before .before .before .before in
+    one-more (z .before .loop .inv) (search needs) (c .before .before .put-field .ensures)
+
+same-length : tie.Need-same-length Inv-loop μ-loop
+same-length c = length-kept (c .before .loop .inv)
+
+returns : tie.Need-returns Inv-loop μ-loop
+returns c = all-placed (c .before .loop .inv) (search needs)
+
+pub put-fields-spec : {M : Type 1} → statement M
+put-fields-spec =
+    tie.close
+    (tie.spec
+    Inv-loop
+    μ-loop
+    loop-holds
+    mul-put-field
+    shared-slice-read-put-field
+    put-field-requires
+    add-i
+    loop-less
+    loop-again
+    same-length
+    returns)

@@ -1,0 +1,36 @@
+-- `tell`: 11 where the room is shorter, and else the whole text.
+use native.Mathlib.Omega.{arith}
+use Rattle.listing.specs.Text.{textOf}
+use Rattle.listing.proofs.TextLaws.{told-short, told-whole}
+use borrow.Author.Needs.{needs}
+use Rattle.listing.proofs.tell.Statement.{statement}
+use Rattle.listing.proofs.tell.Tie as tie
+
+length-of-requires : tie.Need-length-of-requires
+length-of-requires c κs = search needs
+
+refusal-requires : tie.Need-refusal-requires
+refusal-requires c κs = search needs
+
+returns : tie.Need-returns
+returns c =
+    let a = c .before .before .before .before .before .args in
+    told-short (textOf (a .read) (a .found) (record { reply = a .solved; room = a .list .now })) (a .room .now) (c .refusal .result) (c .refusal .ensures)
+    (omega arith)
+
+whole-requires : tie.Need-whole-requires
+whole-requires c κs = search needs
+
+same-length : tie.Need-same-length
+same-length c = search needs
+
+returns-2 : tie.Need-returns-2
+returns-2 c =
+    let a = c .before .before .before .before .before .before .before .before .args in
+    told-whole (textOf (a .read) (a .found) (record { reply = a .solved; room = a .list .now })) (a .room .now) _ _ (c .before .before .whole .ensures)
+    (omega arith)
+
+pub tell-spec : {M : Type 1} → statement M
+tell-spec =
+    tie.close
+    (tie.spec length-of-requires refusal-requires returns whole-requires same-length returns-2)

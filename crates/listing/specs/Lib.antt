@@ -1,0 +1,3 @@
+-- What a listing promises.
+pub mod Text
+pub mod Listing
