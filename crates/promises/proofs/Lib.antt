@@ -1,0 +1,7 @@
+-- The promises: open Demands first.
+pub mod CertificateLaws
+pub mod BenchSheet
+pub mod Unique
+pub mod RefusalLaws
+pub mod SolvedLaws
+pub mod Demands

@@ -1,0 +1,185 @@
+-- What demand 1 needs of the calls' contracts: each bad input's refusal, and that a refusal leaves what was lent as it was. Assumes nothing.
+use mathlib.Core.Bool.{Bool, true, false, cond, not}
+use mathlib.Core.List.{List, [], _∷_}
+use mathlib.Core.Path.{_≡_, refl, ap, _∙_, subst}
+use Prim.Native.Nat.{ℕ, _<_, _≤_}
+use native.Mathlib.Omega.{arith}
+use lib.Dec.{eqb, ltb}
+use lib.ListN.{length}
+use Rattle.change.proofs.ApplyLaws.{applies-unformed, applies-wrong, applies-made, applies-unique}
+use Rattle.change.proofs.PermittedLaws.{firstWrong-le, permitted-list}
+use Rattle.change.specs.Applying.{firstWrong, Applies}
+use Rattle.change.specs.Kinds.{oneByOne}
+use Rattle.change.specs.declared.Applied.{Applied}
+use Rattle.listing.specs.Listing.{ListsInto, given}
+use Rattle.runcheck.specs.OpenNeeds.{checked}
+use Rattle.session.specs.Calls.{listed}
+use Rattle.session.specs.Sessions.{inForm}
+use Rattle.solve.specs.Solving.{Outcome, refused, answered, told, Solves}
+use Rattle.solve.specs.Tables.{rowAt}
+use Rattle.search.specs.Rows.{verdictIn}
+use Rattle.table.proofs.Bools.{by-order}
+use Rattle.table.specs.Answer.{Verdict, found, over, hopeless, Permitted}
+use Rattle.table.specs.Join.{joinVerdicts}
+use Rattle.table.specs.Refusals.{Check, Refusal, firstOf, accepted, bytesAfterEnd, roomTooShort, notWellFormed, notASession, listNotPermitted}
+use Rattle.table.specs.Tasks.{cellsOf, formed, Shaped, WellFormed}
+use Rattle.table.specs.declared.Reply.{Reply}
+use Rattle.table.specs.declared.Task.{Task}
+use Rattle.taskfile.proofs.Files.{accepted-exactly, accepted-read}
+use Rattle.taskfile.specs.Format.{fileOf}
+use Rattle.taskfile.specs.Reading.{Seen, noTask, faultsAt, Reads, ReadsFile, faulty, good, ended, trailing}
+use Rattle.taskfile.specs.declared.TaskRead.{TaskRead}
+use Rattle.taskwriter.specs.Writing.{checks, outcome, written, filled, refusedWrite, acceptedWrite}
+
+-- ---- files
+
+-- Every check's number is at most n.
+abbrev Bounded : ℕ → List Check → Type 0
+Bounded n [] = Unit {0}
+Bounded n (c ∷ cs) = (c .number ≤ n) × Bounded n cs
+
+firstOf-bounded : (n : ℕ) (cs : List Check) → Bounded n cs → firstOf cs .number ≤ n
+unfolding firstOf
+firstOf-bounded n [] b = omega arith
+firstOf-bounded n (c ∷ cs) b = pick (c .fires) (firstOf-bounded n cs (b .1))
+  where
+    pick : (f : Bool) → firstOf cs .number ≤ n
+        → cond {A = Refusal} f (record { number = c .number; place = c .place }) (firstOf cs) .number ≤ n
+    pick true h = b .0
+    pick false h = h
+
+faults-bounded : (s : List ℕ) (at : ℕ) (seen : Seen) → Bounded bytesAfterEnd (faultsAt s at seen)
+unfolding faultsAt
+faults-bounded s at seen =
+    (omega arith, (omega arith, (omega arith, (omega arith, (omega arith, (omega arith, (omega arith, (omega arith, tt))))))))
+
+-- What a refused read gives.
+pub record BadFile (r : TaskRead) : Type 0 where
+  pub numbered : (0 < r .number) × (r .number ≤ bytesAfterEnd)
+  pub zeros : r .task ≡ noTask
+
+bad-from : {s : List ℕ} {r : TaskRead} {at : ℕ} {seen : Seen} → Reads s r at seen → (r .number ≡ accepted → ⊥) → BadFile r
+bad-from {s} (faulty {at} {seen} f e) nonzero = record {
+  numbered = (
+    omega (arith, ap (λ (q : TaskRead). q .number) e),
+    omega (arith, ap (λ (q : TaskRead). q .number) e, firstOf-bounded bytesAfterEnd (faultsAt s at seen) (faults-bounded s at seen)),
+  );
+  zeros = ap (λ (q : TaskRead). q .task) e;
+}
+bad-from (good c more rest) nonzero = bad-from rest nonzero
+bad-from (ended c is last e) nonzero = absurd (nonzero (ap (λ (q : TaskRead). q .number) e))
+bad-from (trailing c is more e) nonzero = record {
+  numbered = (omega (arith, ap (λ (q : TaskRead). q .number) e), omega (arith, ap (λ (q : TaskRead). q .number) e));
+  zeros = ap (λ (q : TaskRead). q .task) e;
+}
+
+-- Bytes that are no well-formed task's file get a number from 1 to 8 and a task of zeros.
+pub bad-file : (s : List ℕ) (r : TaskRead) → ReadsFile s r → ((t : Task) → WellFormed t → s ≡ fileOf t → ⊥) → BadFile r
+bad-file s r reads none =
+    bad-from reads (λ ok.
+    let p = accepted-exactly s (r .task) .0 (subst (ReadsFile s) (accepted-read reads ok) reads) in
+    none (r .task) (p .0) (p .1))
+
+-- ---- writing
+
+outcome-keeps : (r : Refusal) (file room : List ℕ) → (outcome r file room .0 .number ≡ accepted → ⊥) → outcome r file room .1 ≡ room
+unfolding outcome
+outcome-keeps r file room = pick (eqb (r .number) accepted)
+  where
+    both-ways : Bool → Reply × List ℕ
+    both-ways b =
+        cond {A = Reply × List ℕ} b (acceptedWrite (length file), filled room file) (refusedWrite (r .number) (r .place), room)
+
+    pick : (b : Bool) → (both-ways b .0 .number ≡ accepted → ⊥) → both-ways b .1 ≡ room
+    pick true nonzero = absurd (nonzero refl)
+    pick false nonzero = refl
+
+pub write-keeps : (t : Task) (room : List ℕ) (o : Reply × List ℕ) → o ≡ written t room → (o .0 .number ≡ accepted → ⊥) → o .1 ≡ room
+unfolding written
+write-keeps t room o e nonzero =
+    ap (λ (x : Reply × List ℕ). x .1) e ∙
+    outcome-keeps (firstOf (checks t room)) (fileOf t) room (λ k. nonzero (ap (λ (x : Reply × List ℕ). x .0 .number) e ∙ k))
+
+-- ---- the run check
+
+pub check-malformed : (t : Task) → formed t ≡ false → checked t ≡ record { number = notWellFormed; place = 0; total = 0; step = 0; fact = 0 }
+unfolding checked
+check-malformed t e = rw e
+
+-- ---- applying a list
+
+-- Some result meets the contract, for every task and list.
+pub apply-defined : (t : Task) → Shaped t → (l : List ℕ) → (r : Applied) × Applies t l r
+apply-defined t s l = pick (formed t) refl
+  where
+    made : formed t ≡ true → (r : Applied) × Applies t l r
+    made e =
+        by-order (firstWrong (cellsOf (t .table)) l) (length l)
+        (λ h. (record { number = listNotPermitted; place = firstWrong (cellsOf (t .table)) l; task = t }, applies-wrong t l _ refl e h))
+        (λ h. (
+          record { number = accepted; place = 0; task = record { table = oneByOne (t .table) l (length l); run = t .run } },
+          applies-made t l _ refl s e h,
+        ))
+
+    pick : (b : Bool) → formed t ≡ b → (r : Applied) × Applies t l r
+    pick true e = made e
+    pick false e = (record { number = notWellFormed; place = 0; task = t }, applies-unformed t l e)
+
+-- A list that is not permitted is refused at its first wrong number.
+pub bad-list : (t : Task) → WellFormed t → formed t ≡ true → (l : List ℕ) → (Permitted (cellsOf (t .table)) l → ⊥) → (r : Applied) → Applies t l r
+    → r ≡ record { number = listNotPermitted; place = firstWrong (cellsOf (t .table)) l; task = t }
+bad-list t w e l bad r a =
+    by-order (firstWrong (cellsOf (t .table)) l) (length l) (λ h. applies-unique t l r _ a (applies-wrong t l _ refl e h))
+    (λ h. absurd (bad (permitted-list (cellsOf (t .table)) l (omega (arith, firstWrong-le (cellsOf (t .table)) l)))))
+
+-- ---- a verdict told into room
+
+told-keeps : (v : Verdict) (room : List ℕ) → (told v room .reply .number ≡ accepted → ⊥) → told v room .room ≡ room
+unfolding told
+told-keeps (found l) room = pick (ltb (length room) (length l))
+  where
+    pick : (b : Bool) → (cond {A = Outcome} b (refused roomTooShort room) (answered l room) .reply .number ≡ accepted → ⊥)
+        → cond {A = Outcome} b (refused roomTooShort room) (answered l room) .room ≡ room
+    pick true nonzero = refl
+    pick false nonzero = absurd (nonzero refl)
+told-keeps over room = λ nonzero. refl
+told-keeps hopeless room = λ nonzero. refl
+
+pub solve-keeps : (t : Task) (room : List ℕ) (o : Outcome) → Solves t room o → (o .reply .number ≡ accepted → ⊥) → o .room ≡ room
+solve-keeps t room o s nonzero = pick (formed t) refl
+  where
+    pick : (b : Bool) → formed t ≡ b → o .room ≡ room
+    pick false e = ap (λ (x : Outcome). x .room) (s .malformed e)
+    pick true e =
+        let x = s .verdict e in
+        ap (λ (u : Outcome). u .room) (x .2) ∙ told-keeps (x .0) room (λ k. nonzero (ap (λ (u : Outcome). u .reply .number) (x .2) ∙ k))
+
+pub list-keeps : (t : Task) (s room : List ℕ) (o : Outcome) → o ≡ listed t s room → (o .reply .number ≡ accepted → ⊥) → o .room ≡ room
+unfolding listed
+list-keeps t s room o e nonzero =
+    ap (λ (x : Outcome). x .room) e ∙ pick (not (formed t)) (not (inForm t s)) (λ k. nonzero (ap (λ (x : Outcome). x .reply .number) e ∙ k))
+  where
+    joined : Verdict
+    joined = joinVerdicts (λ f. verdictIn (rowAt s f)) (t .table .facts) (t .table .limit)
+
+    either : Bool → Bool → Outcome
+    either a b =
+        cond {A = Outcome} a (refused notWellFormed room) (cond {A = Outcome} b (refused notASession room) (told joined room))
+
+    pick : (a b : Bool) → (either a b .reply .number ≡ accepted → ⊥) → either a b .room ≡ room
+    pick true b h = refl
+    pick false true h = refl
+    pick false false h = told-keeps joined room h
+
+-- ---- the listing
+
+pub listing-keeps : (input room : List ℕ) (o : Outcome) → ListsInto input room o → (o .reply .number ≡ accepted → ⊥) → o .room ≡ room
+unfolding given
+listing-keeps input room o a nonzero =
+    ap (λ (x : Outcome). x .room) (a .outcome) ∙
+    pick (ltb (length room) (length (a .text))) (λ k. nonzero (ap (λ (x : Outcome). x .reply .number) (a .outcome) ∙ k))
+  where
+    pick : (b : Bool) → (cond {A = Outcome} b (refused roomTooShort room) (answered (a .text) room) .reply .number ≡ accepted → ⊥)
+        → cond {A = Outcome} b (refused roomTooShort room) (answered (a .text) room) .room ≡ room
+    pick true h = refl
+    pick false h = absurd (h refl)

@@ -1,0 +1,57 @@
+-- A test that computing decides: the verdict on one fact, where its list has at most one repair. A tool for the bench sheet; what a
+-- verdict means is in table/specs/Answer.
+use mathlib.Core.Bool.{Bool, false, not, _&&_, _||_, cond}
+use mathlib.Core.List.{List, [], _∷_}
+use Prim.Native.Nat.{ℕ, _+_, _-_, _*_}
+use lib.Dec.{eqb}
+use lib.ListN.{length}
+use Rattle.table.specs.Answer.{Verdict, found, over, hopeless}
+use Rattle.table.specs.Order.{isIn}
+use Rattle.table.specs.Repairs.{permitted, repaired, factOf}
+use Rattle.table.specs.Sizes.{maxActions, maxSteps, perFact}
+use Rattle.table.specs.Strips.{Cells, Course, stateAt}
+use Rattle.table.specs.Tasks.{cellsOf, courseOf, everyBelow, formed}
+use Rattle.table.specs.declared.Task.{Task}
+
+-- "present wherever it is needed, and at the end if it is a goal"
+unfoldable pub isRight : Cells → Course → ℕ → Bool
+isRight c r f =
+    everyBelow (λ i. not (c .needs (r .step i) f) || stateAt c r i f) (r .count) &&
+    (not (r .goal f) || stateAt c r (r .count) f)
+
+-- The same in the table with a list applied.
+unfoldable pub isRightWith : Cells → Course → ℕ → List ℕ → Bool
+isRightWith c r f l = isRight (repaired c (isIn l)) r f
+
+-- The repair n alone makes the fact right.
+unfoldable pub mends : Cells → Course → ℕ → ℕ → Bool
+mends c r f n = permitted c n && isRightWith c r f (n ∷ [])
+
+-- Found, without a repair: the fact is right as it stands. Found, with one: it mends the fact, which is not right as it stands, and no
+-- smaller repair of the fact does. Hopeless: no steps, and a goal absent at the start.
+unfoldable pub certifies : Cells → Course → ℕ → Verdict → Bool
+certifies c r f (found []) = isRightWith c r f []
+certifies c r f (found (x ∷ [])) =
+    mends c r f x && eqb (factOf x) f && not (isRightWith c r f []) &&
+    everyBelow (λ i. not (mends c r f (perFact * f + i))) (x - perFact * f)
+certifies c r f (found (x ∷ y ∷ l)) = false
+certifies c r f over = false
+certifies c r f hopeless = eqb (r .count) 0 && r .goal f && not (r .start f)
+
+-- Every fact's verdict is certified, and the task is well formed with arrays of their declared lengths.
+unfoldable pub certified : Task → (ℕ → Verdict) → Bool
+certified t v =
+    eqb (length (t .table .needs)) maxActions && eqb (length (t .table .adds)) maxActions &&
+    (eqb (length (t .table .deletes)) maxActions && eqb (length (t .run .steps)) maxSteps) && formed t &&
+    everyBelow (λ f. certifies (cellsOf (t .table)) (courseOf (t .run)) f (v f)) (t .table .facts)
+
+-- The repairs of fact f in a list.
+unfoldable pub ofFact : List ℕ → ℕ → List ℕ
+ofFact [] f = []
+ofFact (x ∷ l) f = cond {A = List ℕ} (eqb (factOf x) f) (x ∷ ofFact l f) (ofFact l f)
+
+-- The verdicts of the facts that a verdict on the task comes from: the list's parts, or hopeless.
+abbrev pub partsOf : Verdict → ℕ → Verdict
+partsOf (found l) f = found (ofFact l f)
+partsOf over f = over
+partsOf hopeless f = hopeless

@@ -1,0 +1,147 @@
+-- The bench sheet of document 01 as one table: the starred rows, 1 to 11, in the words of the calls' contracts.
+use mathlib.Core.Bool.{false}
+use mathlib.Core.List.{List, [], _∷_, _++_}
+use mathlib.Core.Path.{_≡_}
+use Prim.Native.Nat.{ℕ, _^_}
+use Prim.Native.String.{String}
+use lib.ListN.{length, take, replicate}
+use Rattle.change.specs.declared.Cell.the-variants.{Delete}
+use Rattle.change.specs.declared.Edit.{Edit}
+use Rattle.listing.specs.Listing.{ListsInto, given}
+use Rattle.session.specs.Calls.{Opens, Edits, listed}
+use Rattle.session.specs.declared.Edited.{Edited}
+use Rattle.solve.specs.Solving.{told, Solves}
+use Rattle.solve.specs.Tables.{rowAt}
+use Rattle.table.specs.Answer.{Verdict, found, over, hopeless}
+use Rattle.table.specs.Refusals.{accepted, noEnd, numberOutside, bytesAfterEnd}
+use Rattle.table.specs.Sizes.{maxActions, maxSteps, maxLimit, maxFacts}
+use Rattle.table.specs.declared.Reply.{Reply}
+use Rattle.table.specs.declared.Task.{Task}
+use Rattle.taskfile.proofs.BenchRows.{listingFile, listingTask, strayStep}
+use Rattle.taskfile.specs.Reading.{ReadsFile, refusedRead, acceptedRead}
+use Rattle.taskfile.specs.declared.TaskRead.{TaskRead}
+use Rattle.promises.specs.Ascii.{bytesOf}
+use Rattle.promises.specs.Determined.{Only}
+
+infixr 20 _and_
+-- What a row says of a call.
+pub data BenchRow : Type 0 where
+  -- a file of so many bytes is read so
+  reads : List ℕ → ℕ → TaskRead → BenchRow
+  -- the listing of a file is this text, in whatever room is lent
+  lists : List ℕ → String → BenchRow
+  -- a task has this verdict: it is told into whatever room is lent (`told`: over is 10, hopeless is 9)
+  solves : Task → Verdict → BenchRow
+  -- after one edit of an opened session the listing tells this verdict, and the row of this fact is untouched
+  edits : Task → Edit → Verdict → ℕ → BenchRow
+
+-- The row holds: the call's contract allows what the row says, and nothing else. For an edit: whatever opening and the edit may give.
+abbrev pub Holds : BenchRow → Type 0
+Holds (reads file bytes r) = (length file ≡ bytes) × Only (ReadsFile file) r
+Holds (lists file text) = (room : List ℕ) → Only (ListsInto file room) (given (bytesOf text) room)
+Holds (solves t v) = (room : List ℕ) → Only (Solves t room) (told v room)
+Holds (edits t e v kept) =
+    (s₀ s after : List ℕ) (r₀ : Reply) (r : Edited) → Opens t s₀ r₀ s → r₀ .number ≡ accepted → Edits t s e r after
+    → (r .number ≡ accepted) × ((room : List ℕ) → listed (r .task) after room ≡ told v room) × (rowAt after kept ≡ rowAt s kept)
+
+-- Every row of a list holds.
+pub data AllHold : List BenchRow → Type 0 where
+  all : AllHold []
+  _and_ : {row : BenchRow} {rows : List BenchRow} → Holds row → AllHold rows → AllHold (row ∷ rows)
+
+-- ---- tasks
+
+-- An array of n places whose first are l.
+abbrev filled : ℕ → List ℕ → List ℕ
+filled n l = take n (l ++ replicate n 0)
+
+-- F, A and L; the needs, adds and deletes of the first actions; start, goal and steps. A set of facts is a mask: fact f is bit f.
+abbrev pub task : ℕ → ℕ → ℕ → List ℕ → List ℕ → List ℕ → ℕ → ℕ → List ℕ → Task
+task f a l needs adds deletes start goal steps = record {
+  table = record {
+    facts = f;
+    actions = a;
+    limit = l;
+    needs = filled maxActions needs;
+    adds = filled maxActions adds;
+    deletes = filled maxActions deletes;
+  };
+  run = record { start = start; goal = goal; count = length steps; steps = filled maxSteps steps };
+}
+
+-- Case 2 with another limit.
+abbrev pub limited : ℕ → Task
+limited l = record {
+  table = record {
+    facts = listingTask .table .facts;
+    actions = listingTask .table .actions;
+    limit = l;
+    needs = listingTask .table .needs;
+    adds = listingTask .table .adds;
+    deletes = listingTask .table .deletes;
+  };
+  run = listingTask .run;
+}
+
+-- Delete (1, 1) to absent.
+abbrev pub deleteAbsent : Edit
+deleteAbsent = record { cell = Delete 1 1; present = false }
+
+-- The fact whose row it leaves.
+abbrev pub untouched : ℕ
+untouched = 2
+
+-- What the program prints for the file of "The listing", and for one with a byte too many.
+abbrev pub listingText : String
+listingText = "task 4 3 3 3\nopen 2 3 1\nset 2\ndrop-delete 1 1\nadd-effect 0 2\nend\n"
+
+abbrev pub refusedText : String
+refusedText = "refused 8 36\n"
+
+-- ---- the sheet
+
+abbrev pub sheet : List BenchRow
+sheet =
+    -- 1. Empty input: 1 at 0.
+    reads [] 0 (refusedRead noEnd 0) ∷
+    -- 2. The file above: 36 bytes, list 97, 224.
+    reads listingFile 36 (acceptedRead listingTask) ∷
+    solves listingTask (found (97 ∷ 224 ∷ [])) ∷
+    lists listingFile listingText ∷
+    -- 3. The same, L = 1: 10. L = 2: list 97, 224.
+    solves (limited 1) over ∷
+    solves (limited 2) (found (97 ∷ 224 ∷ [])) ∷
+    -- 4. No steps, goals within start: empty list.
+    solves (task 2 1 maxLimit [] [] [] 0b11 0b10 []) (found []) ∷
+    -- 5. No steps, goal 0, empty start: 9.
+    solves (task 1 1 maxLimit [] [] [] 0 0b1 []) hopeless ∷
+    -- 6. One action that adds and deletes fact 0, one step, goal 0, empty start: empty list.
+    solves (task 1 1 maxLimit [] (0b1 ∷ []) (0b1 ∷ []) 0 0b1 (0 ∷ [])) (found []) ∷
+    -- 7. One action that deletes 0, one step, start and goal 0: list 0 (32 works too, and comes later).
+    solves (task 1 1 maxLimit [] [] (0b1 ∷ []) 0b1 0b1 (0 ∷ [])) (found (0 ∷ [])) ∷
+    -- 8. F 64, A 1, the action needs 63, one step, empty start, L 1: list 6112.
+    solves (task maxFacts 1 1 (2 ^ 63 ∷ []) [] [] 0 0 (0 ∷ [])) (found (6112 ∷ [])) ∷
+    -- 9. Case 2, edit delete (1, 1) to absent: list 224, row 2 untouched.
+    edits listingTask deleteAbsent (found (224 ∷ [])) untouched ∷
+    -- 10. Case 2's first 35 bytes: 1 at 35. All 36 bytes with a byte 00 appended: 8 at 36.
+    reads (take 35 listingFile) 35 (refusedRead noEnd 35) ∷
+    reads (listingFile ++ (0x00 ∷ [])) 37 (refusedRead bytesAfterEnd 36) ∷
+    lists (listingFile ++ (0x00 ∷ [])) refusedText ∷
+    -- 11. Case 2 with its last step 03: 5 at 33.
+    reads strayStep 36 (refusedRead numberOutside 33) ∷ []
+
+-- ---- the sources' own examples, facts and actions numbered in reading order
+
+abbrev pub figures : List BenchRow
+figures =
+    -- 001, Figure 1: facts q, f; actions a, b, c; plan a b a c. Of its shortest lists the order picks the paper's own: drop the delete
+    -- of q by a (0) and add f to a (128). Adding q to a (32), since add wins, is as short and comes later.
+    solves (task 2 3 maxLimit (0b01 ∷ 0b11 ∷ 0b11 ∷ []) [] (0b01 ∷ 0b10 ∷ 0b01 ∷ []) 0b01 0 (0 ∷ 1 ∷ 0 ∷ 2 ∷ [])) (found (0 ∷ 128 ∷ [])) ∷
+    -- 000, Figure 1. The drawing is not in our copy. Its text gives facts l, f, q, r, z; start l, goal z; plan a1 a2 a1 a3; a2 needs f; a3
+    -- needs f and r; a1 deletes r. The rest is our reading: a1 needs l and adds q, a2 needs q and adds r, a3 adds z. Again the order picks
+    -- the paper's own: add f to a1 (128) and drop its delete of r (288). Adding r to a1 (320) and dropping the need of r (354) are as short
+    -- and come later.
+    solves
+    (task 5 3 maxLimit (0b00001 ∷ 0b00110 ∷ 0b01010 ∷ []) (0b00100 ∷ 0b01000 ∷ 0b10000 ∷ []) (0b01000 ∷ []) 0b00001 0b10000
+    (0 ∷ 1 ∷ 0 ∷ 2 ∷ []))
+    (found (128 ∷ 288 ∷ [])) ∷ []
