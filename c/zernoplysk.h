@@ -1,0 +1,102 @@
+/* Zernoplysk for C: every call of the proved library, on numbers and lent memory (docs/BOUNDARY.md).
+ *
+ * A slice crosses as a pointer and a length in elements; a null pointer with length 0 is an empty slice. The memory of
+ * a pointer without `const` may be written as far as its length, and must not overlap what another argument lends.
+ * Nothing is kept after the call, nothing is allocated, and every call ends and is safe for any contents and lengths.
+ *
+ * A task crosses as ZP_TASK_WORDS words, in the order of the ZP_AT_ places. Any 166 words are a task, well formed or
+ * not; a step above 255 counts as 255. Another number of words is refused with 12, place 0, as the task of zeros.
+ *
+ * An answer crosses as words in `answer`: the number (0, or the refusal of 01's table) and the place first, then what
+ * the call gives. One rule: if `answer` has fewer words than the call's answer, the call returns 11 and touches nothing
+ * of what was lent; otherwise it writes its words from the first on, nothing beside, and returns the first of them.
+ */
+#ifndef ZERNOPLYSK_H
+#define ZERNOPLYSK_H
+
+#include <stddef.h>
+#include <stdint.h>
+
+#ifdef __cplusplus
+extern "C" {
+#endif
+
+enum {
+    ZP_ACTIONS = 32,
+    ZP_STEPS = 64,
+
+    /* Where the parts of a task stand among its words. */
+    ZP_AT_FACTS = 0,
+    ZP_AT_ACTIONS = 1,
+    ZP_AT_LIMIT = 2,
+    ZP_AT_NEEDS = 3,                              /* a mask of facts for each of the 32 actions */
+    ZP_AT_ADDS = ZP_AT_NEEDS + ZP_ACTIONS,
+    ZP_AT_DELETES = ZP_AT_ADDS + ZP_ACTIONS,
+    ZP_AT_START = ZP_AT_DELETES + ZP_ACTIONS,     /* a mask of facts */
+    ZP_AT_GOAL = ZP_AT_START + 1,                 /* a mask of facts */
+    ZP_AT_COUNT = ZP_AT_GOAL + 1,                 /* how many steps */
+    ZP_AT_STEPS = ZP_AT_COUNT + 1,                /* an action for each of the 64 places */
+    ZP_TASK_WORDS = ZP_AT_STEPS + ZP_STEPS,
+
+    /* How many words each kind of answer has. */
+    ZP_REPLY_WORDS = 3,                           /* number, place, length */
+    ZP_CHECKED_WORDS = 5,                         /* number, place, total, step, fact */
+    ZP_RECORD_WORDS = 6,                          /* number, place, kind, start, length, next */
+    ZP_TASK_ANSWER_WORDS = 2 + ZP_TASK_WORDS,     /* number, place, task */
+
+    /* A session table, and the longest file and list. */
+    ZP_TABLE_NUMBERS = 448,
+    ZP_FILE_BYTES = 18821,
+    ZP_LIST_NUMBERS = 6,
+
+    /* The kinds of cell that an edit names; any other kind is refused with 14. */
+    ZP_NEED = 0,
+    ZP_ADD = 1,
+    ZP_DELETE = 2,
+    ZP_START = 3,
+    ZP_GOAL = 4
+};
+
+/* The record at a place of the file. Its body is `length` bytes of the file from `start` on. Answer: ZP_RECORD_WORDS. */
+size_t zp_record(const uint8_t *file, size_t file_len, size_t at, uint64_t *answer, size_t answer_len);
+
+/* The task of a file. Answer: ZP_TASK_ANSWER_WORDS. */
+size_t zp_read(const uint8_t *file, size_t file_len, uint64_t *answer, size_t answer_len);
+
+/* The task's file into `room`; ZP_FILE_BYTES are always enough. Answer: ZP_REPLY_WORDS. */
+size_t zp_write(const uint64_t *task, size_t task_len, uint8_t *room, size_t room_len, uint64_t *answer,
+                size_t answer_len);
+
+/* The run check. Answer: ZP_CHECKED_WORDS. */
+size_t zp_check(const uint64_t *task, size_t task_len, uint64_t *answer, size_t answer_len);
+
+/* A list of repair numbers applied at once. Answer: ZP_TASK_ANSWER_WORDS. */
+size_t zp_apply(const uint64_t *task, size_t task_len, const uint16_t *list, size_t list_len, uint64_t *answer,
+                size_t answer_len);
+
+/* The least repair list into `room`. Answer: ZP_REPLY_WORDS. */
+size_t zp_solve(const uint64_t *task, size_t task_len, uint16_t *room, size_t room_len, uint64_t *answer,
+                size_t answer_len);
+
+/* A session table opened for the task: ZP_TABLE_NUMBERS numbers. Answer: ZP_REPLY_WORDS. */
+size_t zp_open(const uint64_t *task, size_t task_len, uint16_t *table, size_t table_len, uint64_t *answer,
+               size_t answer_len);
+
+/* One cell set to present (not 0) or absent (0), and its fact's row of the table written afresh.
+ * Answer: ZP_TASK_ANSWER_WORDS, the edited task. */
+size_t zp_edit(const uint64_t *task, size_t task_len, size_t kind, size_t action, size_t fact, size_t present,
+               uint16_t *table, size_t table_len, uint64_t *answer, size_t answer_len);
+
+/* The list of a session table into `room`. Answer: ZP_REPLY_WORDS. */
+size_t zp_list(const uint64_t *task, size_t task_len, const uint16_t *table, size_t table_len, uint16_t *room,
+               size_t room_len, uint64_t *answer, size_t answer_len);
+
+/* The listing text of an input into `room`. Answer: ZP_REPLY_WORDS. */
+size_t zp_listing(const uint8_t *input, size_t input_len, uint8_t *room, size_t room_len, uint64_t *answer,
+                  size_t answer_len);
+
+#ifdef __cplusplus
+}
+#endif
+
+#endif

@@ -1,0 +1,228 @@
+//! Zernoplysk for Rust: the functions of zernoplysk.h declared once, each with a safe function over slices, which is all
+//! that a caller needs (docs/BOUNDARY.md). Link target/staticlib/libboundary.a (x86-64). `answer` is lent for the words
+//! of the answer: number and place first; where it is too short, the call returns 11 and touches nothing.
+
+pub const TASK_WORDS: usize = 166;
+pub const REPLY_WORDS: usize = 3;
+pub const CHECKED_WORDS: usize = 5;
+pub const RECORD_WORDS: usize = 6;
+pub const TASK_ANSWER_WORDS: usize = 2 + TASK_WORDS;
+
+extern "C" {
+    fn zp_record(
+        file: *const u8,
+        file_len: usize,
+        at: usize,
+        answer: *mut u64,
+        answer_len: usize,
+    ) -> usize;
+    fn zp_read(file: *const u8, file_len: usize, answer: *mut u64, answer_len: usize) -> usize;
+    fn zp_write(
+        task: *const u64,
+        task_len: usize,
+        room: *mut u8,
+        room_len: usize,
+        answer: *mut u64,
+        answer_len: usize,
+    ) -> usize;
+    fn zp_check(task: *const u64, task_len: usize, answer: *mut u64, answer_len: usize) -> usize;
+    fn zp_apply(
+        task: *const u64,
+        task_len: usize,
+        list: *const u16,
+        list_len: usize,
+        answer: *mut u64,
+        answer_len: usize,
+    ) -> usize;
+    fn zp_solve(
+        task: *const u64,
+        task_len: usize,
+        room: *mut u16,
+        room_len: usize,
+        answer: *mut u64,
+        answer_len: usize,
+    ) -> usize;
+    fn zp_open(
+        task: *const u64,
+        task_len: usize,
+        table: *mut u16,
+        table_len: usize,
+        answer: *mut u64,
+        answer_len: usize,
+    ) -> usize;
+    fn zp_edit(
+        task: *const u64,
+        task_len: usize,
+        kind: usize,
+        action: usize,
+        fact: usize,
+        present: usize,
+        table: *mut u16,
+        table_len: usize,
+        answer: *mut u64,
+        answer_len: usize,
+    ) -> usize;
+    fn zp_list(
+        task: *const u64,
+        task_len: usize,
+        table: *const u16,
+        table_len: usize,
+        room: *mut u16,
+        room_len: usize,
+        answer: *mut u64,
+        answer_len: usize,
+    ) -> usize;
+    fn zp_listing(
+        input: *const u8,
+        input_len: usize,
+        room: *mut u8,
+        room_len: usize,
+        answer: *mut u64,
+        answer_len: usize,
+    ) -> usize;
+}
+
+/// The record at a place of the file; its body is `length` bytes of the file from `start` on. Answer: `RECORD_WORDS`.
+pub fn record(file: &[u8], at: usize, answer: &mut [u64]) -> usize {
+    // SAFETY: each pointer is good for its length, and what may be written is lent to this call alone.
+    unsafe {
+        zp_record(
+            file.as_ptr(),
+            file.len(),
+            at,
+            answer.as_mut_ptr(),
+            answer.len(),
+        )
+    }
+}
+
+/// The task of a file. Answer: `TASK_ANSWER_WORDS`.
+pub fn read(file: &[u8], answer: &mut [u64]) -> usize {
+    // SAFETY: each pointer is good for its length, and what may be written is lent to this call alone.
+    unsafe { zp_read(file.as_ptr(), file.len(), answer.as_mut_ptr(), answer.len()) }
+}
+
+/// The task's file into `room`. Answer: `REPLY_WORDS`.
+pub fn write(task: &[u64], room: &mut [u8], answer: &mut [u64]) -> usize {
+    // SAFETY: each pointer is good for its length, and what may be written is lent to this call alone.
+    unsafe {
+        zp_write(
+            task.as_ptr(),
+            task.len(),
+            room.as_mut_ptr(),
+            room.len(),
+            answer.as_mut_ptr(),
+            answer.len(),
+        )
+    }
+}
+
+/// The run check. Answer: `CHECKED_WORDS`.
+pub fn check(task: &[u64], answer: &mut [u64]) -> usize {
+    // SAFETY: each pointer is good for its length, and what may be written is lent to this call alone.
+    unsafe { zp_check(task.as_ptr(), task.len(), answer.as_mut_ptr(), answer.len()) }
+}
+
+/// A list of repair numbers applied at once. Answer: `TASK_ANSWER_WORDS`.
+pub fn apply(task: &[u64], list: &[u16], answer: &mut [u64]) -> usize {
+    // SAFETY: each pointer is good for its length, and what may be written is lent to this call alone.
+    unsafe {
+        zp_apply(
+            task.as_ptr(),
+            task.len(),
+            list.as_ptr(),
+            list.len(),
+            answer.as_mut_ptr(),
+            answer.len(),
+        )
+    }
+}
+
+/// The least repair list into `room`. Answer: `REPLY_WORDS`.
+pub fn solve(task: &[u64], room: &mut [u16], answer: &mut [u64]) -> usize {
+    // SAFETY: each pointer is good for its length, and what may be written is lent to this call alone.
+    unsafe {
+        zp_solve(
+            task.as_ptr(),
+            task.len(),
+            room.as_mut_ptr(),
+            room.len(),
+            answer.as_mut_ptr(),
+            answer.len(),
+        )
+    }
+}
+
+/// A session table opened for the task. Answer: `REPLY_WORDS`.
+pub fn open(task: &[u64], table: &mut [u16], answer: &mut [u64]) -> usize {
+    // SAFETY: each pointer is good for its length, and what may be written is lent to this call alone.
+    unsafe {
+        zp_open(
+            task.as_ptr(),
+            task.len(),
+            table.as_mut_ptr(),
+            table.len(),
+            answer.as_mut_ptr(),
+            answer.len(),
+        )
+    }
+}
+
+/// One cell set to present (1) or absent, its fact's row written afresh. Answer: `TASK_ANSWER_WORDS`.
+pub fn edit(
+    task: &[u64],
+    kind: usize,
+    action: usize,
+    fact: usize,
+    present: usize,
+    table: &mut [u16],
+    answer: &mut [u64],
+) -> usize {
+    // SAFETY: each pointer is good for its length, and what may be written is lent to this call alone.
+    unsafe {
+        zp_edit(
+            task.as_ptr(),
+            task.len(),
+            kind,
+            action,
+            fact,
+            present,
+            table.as_mut_ptr(),
+            table.len(),
+            answer.as_mut_ptr(),
+            answer.len(),
+        )
+    }
+}
+
+/// The list of a session table into `room`. Answer: `REPLY_WORDS`.
+pub fn list(task: &[u64], table: &[u16], room: &mut [u16], answer: &mut [u64]) -> usize {
+    // SAFETY: each pointer is good for its length, and what may be written is lent to this call alone.
+    unsafe {
+        zp_list(
+            task.as_ptr(),
+            task.len(),
+            table.as_ptr(),
+            table.len(),
+            room.as_mut_ptr(),
+            room.len(),
+            answer.as_mut_ptr(),
+            answer.len(),
+        )
+    }
+}
+
+/// The listing text of an input into `room`. Answer: `REPLY_WORDS`.
+pub fn listing(input: &[u8], room: &mut [u8], answer: &mut [u64]) -> usize {
+    // SAFETY: each pointer is good for its length, and what may be written is lent to this call alone.
+    unsafe {
+        zp_listing(
+            input.as_ptr(),
+            input.len(),
+            room.as_mut_ptr(),
+            room.len(),
+            answer.as_mut_ptr(),
+            answer.len(),
+        )
+    }
+}

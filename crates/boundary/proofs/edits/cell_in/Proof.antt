@@ -1,0 +1,51 @@
+-- `cell_in` meets its contract: the tests are the definition's, in its order. Assumes nothing.
+use borrow.Author.Tests.{eq-eqb, ne-eqb}
+use Rattle.session.specs.Replays.{cellOf}
+use Rattle.boundary.proofs.edits.cell_in.Statement.{statement}
+use Rattle.boundary.proofs.edits.cell_in.Tie as tie
+
+returns : tie.Need-returns
+unfolding cellOf
+returns c = rw (eq-eqb _ _ (c .if1 .taken))
+
+returns-2 : tie.Need-returns-2
+unfolding cellOf
+returns-2 c = rw (ne-eqb _ _ (c .before .if1 .left), eq-eqb _ _ (c .if2 .taken))
+
+returns-3 : tie.Need-returns-3
+unfolding cellOf
+returns-3 c =
+    rw (ne-eqb _ _ (c .before .before .if1 .left), ne-eqb _ _ (c .before .if2 .left), eq-eqb _ _ (c .if3 .taken))
+
+returns-4 : tie.Need-returns-4
+unfolding cellOf
+returns-4 c =
+    let d = c .before .before in
+    rw (ne-eqb _ _ (d .before .if1 .left), ne-eqb _ _ (d .if2 .left), ne-eqb _ _ (c .before .if3 .left), eq-eqb _ _ (c .if4 .taken))
+
+returns-5 : tie.Need-returns-5
+unfolding cellOf
+returns-5 c =
+    let d = c .before .before in
+    rw (
+      ne-eqb _ _ (d .before .before .if1 .left),
+      ne-eqb _ _ (d .before .if2 .left),
+      ne-eqb _ _ (d .if3 .left),
+      ne-eqb _ _ (c .before .if4 .left),
+      eq-eqb _ _ (c .if5 .taken),
+    )
+
+returns-6 : tie.Need-returns-6
+unfolding cellOf
+returns-6 c =
+    let d = c .before .before in
+    rw (
+      ne-eqb _ _ (d .before .before .if1 .left),
+      ne-eqb _ _ (d .before .if2 .left),
+      ne-eqb _ _ (d .if3 .left),
+      ne-eqb _ _ (c .before .if4 .left),
+      ne-eqb _ _ (c .if5 .left),
+    )
+
+pub cell-in-spec : {M : Type 1} → statement M
+cell-in-spec = tie.close (tie.spec returns returns-2 returns-3 returns-4 returns-5 returns-6)

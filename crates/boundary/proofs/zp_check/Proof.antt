@@ -1,0 +1,45 @@
+-- `zp_check`: the room first, then what the run check gives.
+use native.Mathlib.Omega.{arith}
+use Rattle.boundary.proofs.AnsweringLaws.{answers-short, answers-given}
+use mathlib.Core.Path.{refl, ap, _∙_}
+use Rattle.runcheck.specs.OpenNeeds.{checked}
+use Rattle.boundary.specs.Answers.{checkedWords}
+use Rattle.boundary.specs.Calls.{ChecksRun}
+use borrow.Author.Needs.{needs}
+use Rattle.boundary.proofs.zp_check.Statement.{statement}
+use Rattle.boundary.proofs.zp_check.Tie as tie
+
+returns : tie.Need-returns
+unfolding ChecksRun
+returns c = answers-short (omega arith) tt
+
+task-in-requires : tie.Need-task-in-requires
+task-in-requires c κs = search needs
+
+check-run-requires : tie.Need-check-run-requires
+check-run-requires c κs = search needs
+
+give-checked-requires : tie.Need-give-checked-requires
+give-checked-requires c κs = search needs
+
+same-length : tie.Need-same-length
+same-length c = search needs
+
+returns-2 : tie.Need-returns-2
+unfolding ChecksRun
+returns-2 c =
+    let y = c .before .before in
+    let z = y .before .before in
+    answers-given (checkedWords (z .check-run .result)) (omega (arith, z .before .before .if1 .left))
+    (ap checkedWords (z .check-run .ensures ∙ ap checked (z .before .task-in .ensures))) (y .give-checked .ensures)
+
+pub zp-check-spec : {M : Type 1} → statement M
+zp-check-spec =
+    tie.close
+    (tie.spec
+    returns
+    task-in-requires
+    check-run-requires
+    give-checked-requires
+    same-length
+    returns-2)

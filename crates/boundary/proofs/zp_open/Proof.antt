@@ -1,0 +1,49 @@
+-- `zp_open`: the room for the answer first, then what opening the table gives.
+use borrow.Author.Needs.{needs}
+use native.Mathlib.Omega.{arith}
+use mathlib.Core.Path.{refl}
+use Rattle.boundary.specs.Answers.{replyWords}
+use Rattle.boundary.specs.Calls.{OpensSession}
+use Rattle.boundary.proofs.AnsweringLaws.{answers-short, answers-given}
+use Rattle.boundary.proofs.zp_open.Statement.{statement}
+use Rattle.boundary.proofs.zp_open.Tie as tie
+
+returns : tie.Need-returns
+unfolding OpensSession
+returns c = answers-short (omega arith) refl
+
+task-in-requires : tie.Need-task-in-requires
+task-in-requires c κs = search needs
+
+open-requires : tie.Need-open-requires
+open-requires c κs = search needs
+
+give-reply-requires : tie.Need-give-reply-requires
+give-reply-requires c κs = search needs
+
+same-length : tie.Need-same-length
+same-length c = search needs
+
+same-length-2 : tie.Need-same-length-2
+same-length-2 c = search needs
+
+returns-2 : tie.Need-returns-2
+unfolding OpensSession
+returns-2 c =
+    let y = c .before .before in
+    let z = y .before .before .before .before in
+    let t = z .before .before in
+    answers-given (replyWords (z .open .result)) (omega (arith, t .before .if1 .left))
+    (z .open .result, rw (t .task-in .ensures) at (z .open .ensures), refl) (y .give-reply .ensures)
+
+pub zp-open-spec : {M : Type 1} → statement M
+zp-open-spec =
+    tie.close
+    (tie.spec
+    returns
+    task-in-requires
+    open-requires
+    give-reply-requires
+    same-length
+    same-length-2
+    returns-2)

@@ -1,0 +1,51 @@
+-- The words that a call answers with, and the one rule of the room that they are lent.
+use mathlib.Core.List.{List, [], _∷_, _++_}
+use mathlib.Core.Path.{_≡_}
+use Prim.Native.Nat.{ℕ, _+_, _<_, _≤_}
+use lib.ListN.{length, getD, drop}
+use Rattle.runcheck.specs.declared.Checked.{Checked}
+use Rattle.table.specs.Refusals.{roomTooShort}
+use Rattle.table.specs.declared.Reply.{Reply}
+use Rattle.table.specs.declared.Task.{Task}
+use Rattle.taskfile.specs.declared.record.Record.{Record}
+use Rattle.taskwriter.specs.Placing.{placed}
+use Rattle.boundary.specs.Words.{taskWords, tableOut, runOut}
+
+-- How many words each kind of answer has; the number and the place are always the first two.
+abbrev pub replyLength : ℕ
+replyLength = 3
+
+abbrev pub checkedLength : ℕ
+checkedLength = 5
+
+abbrev pub recordLength : ℕ
+recordLength = 6
+
+abbrev pub answerMost : ℕ
+answerMost = 2 + taskWords
+
+abbrev pub replyWords : Reply → List ℕ
+replyWords y = y .number ∷ y .place ∷ y .length ∷ []
+
+abbrev pub checkedWords : Checked → List ℕ
+checkedWords y = y .number ∷ y .place ∷ y .total ∷ y .step ∷ y .fact ∷ []
+
+abbrev pub recordWords : Record → List ℕ
+recordWords y = y .number ∷ y .place ∷ y .kind ∷ y .start ∷ y .length ∷ y .next ∷ []
+
+abbrev pub taskAnswer : ℕ → ℕ → Task → List ℕ
+taskAnswer number place t = (number ∷ place ∷ []) ++ tableOut (t .table) ++ runOut (t .run)
+
+-- The n words placed from the first on, as far as the room goes, and the number returned.
+pub record Given (n : ℕ) (words before after : List ℕ) (r : ℕ) : Type 0 where
+  pub size : length words ≡ n
+  pub number : r ≡ getD words 0 0
+  pub room-is : after ≡ placed before 0 words
+
+-- The one rule. Where the room has fewer than n words, the call returns 11 and touches nothing: the room for the answer
+-- is as it was, and `Untouched` says it of what else was lent. Otherwise it makes the call, places the n words that
+-- `Told` says from the first on, nothing beside, and returns the first of them.
+pub record Answers (n : ℕ) (Untouched : Type 0) (Told : List ℕ → Type 0) (before after : List ℕ) (r : ℕ) : Type 0 where
+  pub short : length before < n → (r ≡ roomTooShort) × (after ≡ before) × Untouched
+  pub given : n ≤ length before
+      → (words : List ℕ) × (length words ≡ n) × Told words × (r ≡ getD words 0 0) × (after ≡ words ++ drop n before)

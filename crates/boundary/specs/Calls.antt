@@ -1,0 +1,67 @@
+-- Each call of the boundary, over the definitions that the inner call's contract cites.
+use mathlib.Core.List.{List}
+use mathlib.Core.Path.{_≡_}
+use Prim.Native.Nat.{ℕ}
+use Rattle.change.specs.Applying.{Applies}
+use Rattle.change.specs.declared.Applied.{Applied}
+use Rattle.listing.specs.Listing.{ListsInto}
+use Rattle.runcheck.specs.OpenNeeds.{checked}
+use Rattle.session.specs.Calls.{Opens, Edits, listed}
+use Rattle.session.specs.declared.Edited.{Edited}
+use Rattle.solve.specs.Solving.{Outcome, Solves}
+use Rattle.table.specs.declared.Reply.{Reply}
+use Rattle.taskfile.specs.Reading.{ReadsFile}
+use Rattle.taskfile.specs.Records.{recordAt}
+use Rattle.taskfile.specs.declared.TaskRead.{TaskRead}
+use Rattle.taskwriter.specs.Writing.{written}
+use Rattle.boundary.specs.Words.{taskIn, editIn}
+use Rattle.boundary.specs.Answers.{Answers, replyLength, checkedLength, recordLength, answerMost, replyWords, checkedWords, recordWords, taskAnswer}
+
+-- Nothing but the room for the answer is lent to be written.
+abbrev pub Nothing : Type 0
+Nothing = Unit {0}
+
+-- A call that answers with a reply and writes a lent room: `Replies` says both.
+abbrev pub AnswersReply : List ℕ → List ℕ → (Reply → Type 0) → List ℕ → List ℕ → ℕ → Type 0
+AnswersReply room after Replies =
+    Answers replyLength (after ≡ room) (λ words. (y : Reply) × Replies y × (words ≡ replyWords y))
+
+unfoldable pub HandsRecord : List ℕ → ℕ → List ℕ → List ℕ → ℕ → Type 0
+HandsRecord file at = Answers recordLength Nothing (λ words. words ≡ recordWords (recordAt file at))
+
+unfoldable pub ReadsTask : List ℕ → List ℕ → List ℕ → ℕ → Type 0
+ReadsTask file =
+    Answers answerMost Nothing
+    (λ words. (y : TaskRead) × ReadsFile file y × (words ≡ taskAnswer (y .number) (y .place) (y .task)))
+
+unfoldable pub WritesTask : List ℕ → List ℕ → List ℕ → List ℕ → List ℕ → ℕ → Type 0
+WritesTask ws room after = AnswersReply room after (λ y. (y, after) ≡ written (taskIn ws) room)
+
+unfoldable pub ChecksRun : List ℕ → List ℕ → List ℕ → ℕ → Type 0
+ChecksRun ws = Answers checkedLength Nothing (λ words. words ≡ checkedWords (checked (taskIn ws)))
+
+unfoldable pub AppliesList : List ℕ → List ℕ → List ℕ → List ℕ → ℕ → Type 0
+AppliesList ws list =
+    Answers answerMost Nothing
+    (λ words. (y : Applied) × Applies (taskIn ws) list y × (words ≡ taskAnswer (y .number) (y .place) (y .task)))
+
+unfoldable pub SolvesTask : List ℕ → List ℕ → List ℕ → List ℕ → List ℕ → ℕ → Type 0
+SolvesTask ws room after = AnswersReply room after (λ y. Solves (taskIn ws) room (record { reply = y; room = after }))
+
+unfoldable pub OpensSession : List ℕ → List ℕ → List ℕ → List ℕ → List ℕ → ℕ → Type 0
+OpensSession ws table after = AnswersReply table after (λ y. Opens (taskIn ws) table y after)
+
+unfoldable pub EditsSession : List ℕ → ℕ → ℕ → ℕ → ℕ → List ℕ → List ℕ → List ℕ → List ℕ → ℕ → Type 0
+EditsSession ws kind action fact present table after =
+    Answers answerMost (after ≡ table)
+    (λ words.
+    (y : Edited) × Edits (taskIn ws) table (editIn kind action fact present) y after ×
+    (words ≡ taskAnswer (y .number) (y .place) (y .task)))
+
+unfoldable pub ListsSession : List ℕ → List ℕ → List ℕ → List ℕ → List ℕ → List ℕ → ℕ → Type 0
+ListsSession ws table room after =
+    AnswersReply room after
+    (λ y. _≡_ {A = Outcome} (record { reply = y; room = after }) (listed (taskIn ws) table room))
+
+unfoldable pub ListsInput : List ℕ → List ℕ → List ℕ → List ℕ → List ℕ → ℕ → Type 0
+ListsInput input room after = AnswersReply room after (λ y. ListsInto input room (record { reply = y; room = after }))

@@ -1,0 +1,181 @@
+// The boundary: every public call as an `extern "C"` function on numbers and slices, for callers in C and in Rust
+// (docs/BOUNDARY.md). A task crosses as 166 words, an answer as words in lent room; where that room is too short the
+// call answers 11 and touches nothing.
+mod answer;
+mod edits;
+mod words;
+
+use answer::CHECKED_WORDS;
+use answer::RECORD_WORDS;
+use answer::REPLY_WORDS;
+use answer::TASK_ANSWER_WORDS;
+use answer::give_checked;
+use answer::give_record;
+use answer::give_reply;
+use answer::give_task;
+use change::apply::apply;
+use edits::edit_in;
+use listing::listing;
+use runcheck::check_run;
+use session::edit;
+use session::list;
+use session::open;
+use solve::solve;
+use table::refusals::ROOM_TOO_SHORT;
+use taskfile::read;
+use taskfile::record::record_at;
+use taskwriter::write;
+use words::task_in;
+ghost use Rattle.boundary.specs.Calls.{HandsRecord, ReadsTask, WritesTask, ChecksRun, AppliesList, SolvesTask, OpensSession, EditsSession, ListsSession, ListsInput};
+
+// The record at a place of the file; its body is `length` bytes of the file from `start` on.
+#[no_mangle]
+pub extern "C" fn zp_record(file: &[u8], at: usize, answer: &mut [u64]) -> usize
+    ensures { λ r. ⌜ HandsRecord (now (file .entry)) at (now (answer .entry)) (now (answer .exit)) r ⌝ }
+{
+    if answer.len() < RECORD_WORDS {
+        return ROOM_TOO_SHORT;
+    }
+    let found = record_at(file, at);
+    give_record(found, answer)
+}
+
+// The task of a file.
+#[no_mangle]
+pub extern "C" fn zp_read(file: &[u8], answer: &mut [u64]) -> usize
+    ensures { λ r. ⌜ ReadsTask (now (file .entry)) (now (answer .entry)) (now (answer .exit)) r ⌝ }
+{
+    if answer.len() < TASK_ANSWER_WORDS {
+        return ROOM_TOO_SHORT;
+    }
+    let found = read(file);
+    let task = found.task;
+    give_task(found.number, found.place, task, answer)
+}
+
+// The task's file into lent room.
+#[no_mangle]
+pub extern "C" fn zp_write(task: &[u64], room: &mut [u8], answer: &mut [u64]) -> usize
+    ensures { λ r.
+        ⌜ WritesTask (now (task .entry)) (now (room .entry)) (now (room .exit)) (now (answer .entry)) (now (answer .exit)) r ⌝ }
+{
+    if answer.len() < REPLY_WORDS {
+        return ROOM_TOO_SHORT;
+    }
+    let t = task_in(task);
+    let reply = write(t, room);
+    give_reply(reply, answer)
+}
+
+// The run check.
+#[no_mangle]
+pub extern "C" fn zp_check(task: &[u64], answer: &mut [u64]) -> usize
+    ensures { λ r. ⌜ ChecksRun (now (task .entry)) (now (answer .entry)) (now (answer .exit)) r ⌝ }
+{
+    if answer.len() < CHECKED_WORDS {
+        return ROOM_TOO_SHORT;
+    }
+    let t = task_in(task);
+    let found = check_run(t);
+    give_checked(found, answer)
+}
+
+// A list of repair numbers applied at once.
+#[no_mangle]
+pub extern "C" fn zp_apply(task: &[u64], list: &[u16], answer: &mut [u64]) -> usize
+    ensures { λ r. ⌜ AppliesList (now (task .entry)) (now (list .entry)) (now (answer .entry)) (now (answer .exit)) r ⌝ }
+{
+    if answer.len() < TASK_ANSWER_WORDS {
+        return ROOM_TOO_SHORT;
+    }
+    let t = task_in(task);
+    let done = apply(t, list);
+    let repaired = done.task;
+    give_task(done.number, done.place, repaired, answer)
+}
+
+// The least repair list into lent room.
+#[no_mangle]
+pub extern "C" fn zp_solve(task: &[u64], room: &mut [u16], answer: &mut [u64]) -> usize
+    ensures { λ r.
+        ⌜ SolvesTask (now (task .entry)) (now (room .entry)) (now (room .exit)) (now (answer .entry)) (now (answer .exit)) r ⌝ }
+{
+    if answer.len() < REPLY_WORDS {
+        return ROOM_TOO_SHORT;
+    }
+    let t = task_in(task);
+    let reply = solve(t, room);
+    give_reply(reply, answer)
+}
+
+// A session table opened.
+#[no_mangle]
+pub extern "C" fn zp_open(task: &[u64], table: &mut [u16], answer: &mut [u64]) -> usize
+    ensures { λ r.
+        ⌜ OpensSession (now (task .entry)) (now (table .entry)) (now (table .exit)) (now (answer .entry)) (now (answer .exit)) r ⌝ }
+{
+    if answer.len() < REPLY_WORDS {
+        return ROOM_TOO_SHORT;
+    }
+    let t = task_in(task);
+    let reply = open(t, table);
+    give_reply(reply, answer)
+}
+
+// One cell set, and its fact's row written afresh.
+#[no_mangle]
+pub extern "C" fn zp_edit(
+    task: &[u64],
+    kind: usize,
+    action: usize,
+    fact: usize,
+    present: usize,
+    table: &mut [u16],
+    answer: &mut [u64],
+) -> usize
+    ensures { λ r.
+        ⌜ EditsSession (now (task .entry)) kind action fact present (now (table .entry)) (now (table .exit))
+        (now (answer .entry)) (now (answer .exit)) r ⌝ }
+{
+    if answer.len() < TASK_ANSWER_WORDS {
+        return ROOM_TOO_SHORT;
+    }
+    let t = task_in(task);
+    let e = edit_in(kind, action, fact, present);
+    let done = edit(t, table, e);
+    let edited = done.task;
+    give_task(done.number, done.place, edited, answer)
+}
+
+// The list of a session table into lent room.
+#[no_mangle]
+pub extern "C" fn zp_list(
+    task: &[u64],
+    table: &[u16],
+    room: &mut [u16],
+    answer: &mut [u64],
+) -> usize
+    ensures { λ r.
+        ⌜ ListsSession (now (task .entry)) (now (table .entry)) (now (room .entry)) (now (room .exit))
+        (now (answer .entry)) (now (answer .exit)) r ⌝ }
+{
+    if answer.len() < REPLY_WORDS {
+        return ROOM_TOO_SHORT;
+    }
+    let t = task_in(task);
+    let reply = list(t, table, room);
+    give_reply(reply, answer)
+}
+
+// The listing text of an input into lent room.
+#[no_mangle]
+pub extern "C" fn zp_listing(input: &[u8], room: &mut [u8], answer: &mut [u64]) -> usize
+    ensures { λ r.
+        ⌜ ListsInput (now (input .entry)) (now (room .entry)) (now (room .exit)) (now (answer .entry)) (now (answer .exit)) r ⌝ }
+{
+    if answer.len() < REPLY_WORDS {
+        return ROOM_TOO_SHORT;
+    }
+    let reply = listing(input, room);
+    give_reply(reply, answer)
+}
