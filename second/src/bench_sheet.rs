@@ -1,0 +1,245 @@
+//! Tests of the reference: the bench sheet of document 01, row by row, and what 01 says of all tasks.
+
+use crate::algorithm1;
+use crate::answer::{answer, Budget};
+use crate::compare::tasks::{full_task, random_task};
+use crate::file::{file_of, read, record_at, write};
+use crate::listing::listing;
+use crate::random::Random;
+use crate::refusal::{at, plain, Ground, Refusal, Stop};
+use crate::repair::{apply, Repair};
+use crate::run::{absent, check, valid};
+use crate::session::{edit, in_form, joined_answer, list, open, row, Cell, Edit, ROW, TABLE};
+use crate::task::{only, Task, MOST_FACTS};
+
+/// The file of 01's listing, case 2.
+const CASE_2: [u8; 36] =
+    [1, 4, 3, 3, 2, 0, 3, 3, 4, 0, 0, 4, 1, 1, 4, 2, 1, 4, 2, 2, 5, 0, 1, 5, 2, 3, 6, 1, 1, 7, 0, 7, 1, 7, 2, 8];
+
+const ENOUGH: u64 = 10_000_000;
+
+fn solved(task: &Task) -> Result<Vec<u16>, Stop> {
+    answer(task, Budget::of(ENOUGH))
+}
+
+fn refused(refusal: Refusal) -> Result<Vec<u16>, Stop> {
+    Err(Stop::Refused(refusal))
+}
+
+fn case_2() -> Task {
+    read(&CASE_2).expect("case 2 is a good file")
+}
+
+fn opened(task: &Task) -> Vec<u16> {
+    let mut table = vec![1; TABLE];
+    assert_eq!(open(task, &mut table, Budget::of(ENOUGH)), Ok(TABLE));
+    table
+}
+
+#[test]
+fn row_1_empty_input() {
+    assert_eq!(read(&[]), Err(at(Ground::NoEnd, 0)));
+    assert_eq!(listing(&[], Budget::of(ENOUGH)).unwrap(), "refused 1 0\n");
+}
+
+#[test]
+fn row_2_the_file_of_the_listing() {
+    assert_eq!(solved(&case_2()), Ok(vec![97, 224]));
+    assert_eq!(file_of(&case_2()), CASE_2);
+    let text = "task 4 3 3 3\nopen 2 3 1\nset 2\ndrop-delete 1 1\nadd-effect 0 2\nend\n";
+    assert_eq!(listing(&CASE_2, Budget::of(ENOUGH)).unwrap(), text);
+}
+
+#[test]
+fn row_3_the_limit() {
+    assert_eq!(solved(&Task { limit: 1, ..case_2() }), refused(plain(Ground::NoListWithinLimit)));
+    assert_eq!(solved(&Task { limit: 2, ..case_2() }), Ok(vec![97, 224]));
+}
+
+#[test]
+fn rows_4_and_5_no_steps() {
+    let mut task = Task::sized(2, 1, 3);
+    (task.start, task.goal) = (0b11, 0b01);
+    assert_eq!(solved(&task), Ok(vec![]));
+    task.start = 0;
+    assert_eq!(solved(&task), refused(plain(Ground::NoListAtAll)));
+}
+
+#[test]
+fn rows_6_and_7_add_wins_and_the_first_in_order() {
+    let mut task = Task::sized(1, 1, 1);
+    (task.goal, task.table[0].adds, task.table[0].deletes) = (1, 1, 1);
+    task.push_step(0);
+    assert_eq!(solved(&task), Ok(vec![]));
+    (task.start, task.table[0].adds) = (1, 0);
+    assert_eq!(solved(&task), Ok(vec![0]));
+    assert!(valid(&apply(&task, &[32]).unwrap()));
+}
+
+#[test]
+fn row_8_fact_63() {
+    let mut task = Task::sized(MOST_FACTS, 1, 1);
+    task.table[0].needs = only(63);
+    task.push_step(0);
+    assert_eq!(solved(&task), Ok(vec![6112]));
+}
+
+#[test]
+fn row_9_an_edit_writes_its_row_and_no_other() {
+    let mut table = opened(&case_2());
+    table[2 * ROW + 3] = 4242;
+    let absent = Edit { cell: Cell::Delete { action: 1 }, fact: 1, present: false };
+    let edited = edit(&case_2(), &absent, &mut table, Budget::of(ENOUGH)).unwrap();
+    assert_eq!(table[2 * ROW + 3], 4242);
+    assert_eq!(list(&edited, &table), Err(plain(Ground::Table)));
+    table[2 * ROW + 3] = 65535;
+    assert_eq!(list(&edited, &table), Ok(vec![224]));
+}
+
+#[test]
+fn rows_10_and_11_damaged_files() {
+    assert_eq!(read(&CASE_2[..35]), Err(at(Ground::NoEnd, 35)));
+    assert_eq!(read(&[&CASE_2[..], &[0]].concat()), Err(at(Ground::AfterEnd, 36)));
+    let mut outside = CASE_2;
+    outside[34] = 3;
+    assert_eq!(read(&outside), Err(at(Ground::Outside, 33)));
+}
+
+/// Actions that delete fact 0, as many that need it, run in turn.
+fn pairs(count: usize) -> Task {
+    let mut task = Task::sized(1, 2 * count, 6);
+    task.start = 1;
+    for index in 0..count {
+        task.table[index].deletes = 1;
+        task.table[count + index].needs = 1;
+        task.push_step(index);
+        task.push_step(count + index);
+    }
+    task
+}
+
+#[test]
+fn row_12_six_pairs_and_seven() {
+    assert_eq!(solved(&pairs(6)), Ok(vec![0, 1, 2, 3, 4, 5]));
+    assert_eq!(row(&pairs(7), 0, Budget::of(ENOUGH)).unwrap()[0], 7);
+    assert_eq!(solved(&pairs(7)), refused(plain(Ground::NoListWithinLimit)));
+}
+
+#[test]
+fn numbers_of_repairs_and_back() {
+    for number in 0..=6143 {
+        assert_eq!(Repair::of_number(number).number(), number);
+        assert!(Repair::of_number(number).fact < MOST_FACTS);
+    }
+    assert_eq!(Repair::of_number(6144).fact, MOST_FACTS);
+}
+
+#[test]
+fn the_largest_file_has_18821_bytes_and_is_read_back() {
+    let file = file_of(&full_task());
+    assert_eq!(file.len(), 18_821);
+    assert_eq!(read(&file), Ok(full_task()));
+}
+
+#[test]
+fn within_a_record_the_earlier_refusal_is_given() {
+    let sized = [1, 4, 3, 3];
+    let refusal = |bytes: &[u8]| read(&[&sized[..], bytes].concat()).unwrap_err();
+    assert_eq!(read(&[9, 4]), Err(at(Ground::UnknownKind, 0)));
+    assert_eq!(read(&[4, 0]), Err(at(Ground::SizeRecord, 0)), "3 before the short body");
+    assert_eq!(read(&[1, 65]), Err(at(Ground::NoEnd, 0)), "the short body before 4");
+    assert_eq!(refusal(&[1]), at(Ground::SizeRecord, 4), "3 before the short body");
+    assert_eq!(refusal(&[3, 0, 2, 4]), at(Ground::Outside, 6), "5 before 6");
+    assert_eq!(refusal(&[2, 1, 2, 1]), at(Ground::Order, 6));
+    assert_eq!(refusal(&[4, 0, 1, 4, 0, 1]), at(Ground::Order, 7));
+    assert_eq!(refusal(&[7, 0].repeat(65)), at(Ground::TooManySteps, 4 + 128));
+    assert_eq!(refusal(&[[7, 0].repeat(64), vec![7, 3]].concat()), at(Ground::Outside, 4 + 128), "5 before 7");
+}
+
+#[test]
+fn the_record_reader_keeps_the_place_it_was_asked() {
+    assert_eq!(record_at(&CASE_2, 36), Err(at(Ground::NoEnd, 36)));
+    assert_eq!(record_at(&CASE_2, usize::MAX), Err(at(Ground::NoEnd, usize::MAX)));
+    let record = record_at(&CASE_2, 8).unwrap();
+    assert_eq!((record.kind, record.body, record.next), (4, &[0, 0][..], 11));
+}
+
+#[test]
+fn short_room_is_refused_and_kept() {
+    let mut room = [9; 35];
+    assert_eq!(write(&case_2(), &mut room), Err(plain(Ground::ShortRoom)));
+    assert_eq!(room, [9; 35]);
+}
+
+/// Random tasks of all families; the same ones in every test.
+fn random_tasks(count: usize) -> impl Iterator<Item = Task> {
+    let mut random = Random::new(2026);
+    (0..count).map(move |_| random_task(&mut random))
+}
+
+#[test]
+fn every_random_task_is_well_formed_and_its_file_is_read_back() {
+    for task in random_tasks(2000) {
+        assert!(task.well_formed());
+        assert_eq!(read(&file_of(&task)), Ok(task));
+        assert_eq!(Task::from_words(&task.words()), task);
+    }
+}
+
+#[test]
+fn the_total_is_zero_exactly_if_the_run_is_valid() {
+    for task in random_tasks(2000) {
+        assert_eq!(check(&task).unwrap().total == 0, valid(&task));
+    }
+}
+
+#[test]
+fn the_answer_is_the_join_of_the_rows_and_leaves_nothing_open() {
+    let mut compared = 0;
+    for task in random_tasks(2000) {
+        let found = answer(&task, Budget::of(20_000));
+        let joined = joined_answer(&task, Budget::of(20_000));
+        if found == Err(Stop::TooDear) || joined == Err(Stop::TooDear) {
+            continue;
+        }
+        compared += 1;
+        assert_eq!(found, joined);
+        if let Ok(list) = found {
+            assert!(valid(&apply(&task, &list).unwrap()));
+        }
+    }
+    assert!(compared > 1500, "only {compared} were affordable");
+}
+
+/// "Refusal 9 occurs here only with no steps and a goal absent at the start."
+#[test]
+fn no_list_works_exactly_without_steps_and_with_a_goal_absent() {
+    for task in random_tasks(2000) {
+        let closing_sentence = task.count == 0 && absent(task.goal, task.start) != 0;
+        let hopeless = answer(&task, Budget::of(100)) == refused(plain(Ground::NoListAtAll));
+        assert_eq!(hopeless, closing_sentence);
+    }
+}
+
+#[test]
+fn an_opened_table_is_in_form() {
+    for task in random_tasks(300) {
+        let mut table = vec![0; TABLE];
+        if open(&task, &mut table, Budget::of(20_000)).is_ok() {
+            assert!(in_form(&task, &table));
+        }
+    }
+}
+
+#[test]
+fn algorithm_1_gives_the_answer() {
+    let mut compared = 0;
+    for task in random_tasks(2000) {
+        let found = answer(&task, Budget::of(20_000));
+        if found != Err(Stop::TooDear) {
+            compared += 1;
+            assert_eq!(algorithm1::solve(&task).map_err(Stop::Refused), found);
+        }
+    }
+    assert!(compared > 1500, "only {compared} were affordable");
+}

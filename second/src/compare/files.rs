@@ -1,0 +1,128 @@
+//! Damage to task files: bits, bytes, records, sizes, cuts, and bytes that never were a file.
+
+use crate::file::{body_length, records, END, STEP};
+use crate::random::Random;
+
+/// The file with some damage, or none.
+pub fn damaged(good: &[u8], random: &mut Random) -> Vec<u8> {
+    let mut file = good.to_vec();
+    for _ in 0..random.pick(&[0, 1, 1, 1, 1, 2, 3]) {
+        file = match random.below(4) {
+            0 | 1 => damage_records(&file, random),
+            2 => damage_bytes(file, random),
+            _ => damage_ends(file, random),
+        };
+    }
+    file
+}
+
+/// Whole records repeated, taken out, swapped, put in, or given another kind or number.
+fn damage_records(file: &[u8], random: &mut Random) -> Vec<u8> {
+    let mut parts: Vec<Vec<u8>> = split(file);
+    if parts.is_empty() {
+        return random_bytes(random);
+    }
+    let index = random.below(parts.len());
+    let other = random.below(parts.len());
+    match random.below(8) {
+        0 => parts.insert(index, parts[index].clone()),
+        1 => drop(parts.remove(index)),
+        2 => parts.swap(index, other),
+        3 if index > 0 => parts.swap(index - 1, index),
+        4 => parts.insert(index, parts[other].clone()),
+        5 => parts.insert(index, random_record(random)),
+        6 => parts[index][0] = random.between(0, END as usize + 1) as u8,
+        _ => {
+            let place = random.below(parts[index].len());
+            parts[index][place] = edge_byte(random);
+        }
+    }
+    parts.concat()
+}
+
+/// A record of a known kind with numbers that may or may not fit.
+fn random_record(random: &mut Random) -> Vec<u8> {
+    let kind = random.between(1, END as usize) as u8;
+    let length = body_length(kind).unwrap_or(0);
+    let mut record = vec![kind];
+    record.extend((0..length).map(|_| random.below(5) as u8));
+    record
+}
+
+/// A byte that stands at the edge of some range.
+fn edge_byte(random: &mut Random) -> u8 {
+    random.pick(&[0, 1, 2, 3, 6, 7, 8, 9, 31, 32, 33, 62, 63, 64, 65, 127, 128, 255])
+}
+
+/// Bits turned, bytes put in, taken out or replaced.
+fn damage_bytes(mut file: Vec<u8>, random: &mut Random) -> Vec<u8> {
+    if file.is_empty() {
+        return random_bytes(random);
+    }
+    let place = random.below(file.len());
+    match random.below(4) {
+        0 => file[place] ^= 1 << random.below(8),
+        1 => file.insert(place, edge_byte(random)),
+        2 => drop(file.remove(place)),
+        _ => file[place] = edge_byte(random),
+    }
+    file
+}
+
+/// A wrong size, a cut, bytes after the end, too many steps, or random bytes in place of the file.
+fn damage_ends(mut file: Vec<u8>, random: &mut Random) -> Vec<u8> {
+    match random.below(6) {
+        0 if file.len() > 4 => file[random.between(1, 3)] = edge_byte(random),
+        1 => file.truncate(random.below(file.len() + 1)),
+        2 => drop(file.pop()),
+        3 => file.extend((0..random.between(1, 3)).map(|_| edge_byte(random))),
+        4 => file = with_many_steps(&file, random),
+        _ => file = random_bytes(random),
+    }
+    file
+}
+
+/// The file with its steps repeated up to 63, 64, 65 or 66.
+fn with_many_steps(file: &[u8], random: &mut Random) -> Vec<u8> {
+    let mut parts = split(file);
+    let wanted = random.between(63, 66);
+    let have = parts.iter().filter(|part| part[0] == STEP).count();
+    let place = parts.iter().position(|part| part[0] >= STEP).unwrap_or(parts.len());
+    for _ in have..wanted {
+        parts.insert(place, vec![STEP, 0]);
+    }
+    parts.concat()
+}
+
+/// Bytes that never were a file, mostly small numbers, sometimes with a good size record first.
+fn random_bytes(random: &mut Random) -> Vec<u8> {
+    let mut bytes = if random.chance(8) { vec![1, 4, 3, 2] } else { vec![] };
+    let highest = random.pick(&[4, 9, 256]);
+    bytes.extend((0..random.below(24)).map(|_| random.below(highest) as u8));
+    bytes
+}
+
+/// The records of a file as parts, as far as there are records; what follows is one part more.
+fn split(file: &[u8]) -> Vec<Vec<u8>> {
+    let mut place = 0;
+    let mut parts = Vec::new();
+    for record in records(file) {
+        parts.push(file[place..record.next].to_vec());
+        place = record.next;
+    }
+    if place < file.len() {
+        parts.push(file[place..].to_vec());
+    }
+    parts
+}
+
+/// Places to ask the record reader at: records' starts, any other, the end and beyond.
+pub fn places(file: &[u8], random: &mut Random) -> Vec<u64> {
+    let length = file.len() as u64;
+    let mut places = vec![0, length, random.pick(&[length + 1, length + 1000, 1 << 32, u64::MAX])];
+    if !file.is_empty() {
+        places.extend((0..3).map(|_| random.below(file.len()) as u64));
+    }
+    places.extend(records(file).iter().map(|record| record.next as u64).take(random.below(6)));
+    places
+}

@@ -1,0 +1,152 @@
+//! What a comparison prints: a difference, and at the end the counts.
+
+use std::fmt;
+
+use crate::file::file_of;
+use crate::protocol::{Call, Request, Response, CALLS};
+use crate::reference::Means;
+use crate::session::ROW;
+use crate::task::{Task, WORDS};
+
+/// Which case a request belongs to.
+#[derive(Clone, Copy, PartialEq, Eq, Debug)]
+pub enum Case {
+    Task(usize),
+    File(usize),
+    Session(usize),
+}
+
+/// A driver's response that is not what document 01 demands.
+#[derive(Debug)]
+pub struct Difference {
+    pub seed: u64,
+    pub case: Case,
+    pub request: Request,
+    pub expected: Response,
+    /// What came instead, or why nothing came.
+    pub got: Result<Response, String>,
+}
+
+impl fmt::Display for Difference {
+    fn fmt(&self, out: &mut fmt::Formatter) -> fmt::Result {
+        writeln!(out, "different: seed {}, case {:?}, call {:?}", self.seed, self.case, self.request.call)?;
+        writeln!(out, "file: {}", hex(&self.file()))?;
+        writeln!(out, "request words: {:?}", self.other_words())?;
+        writeln!(out, "request bytes: {}", hex(&self.request.bytes))?;
+        writeln!(out, "expected words: {:?}\nexpected bytes: {}", self.expected.words, hex(&self.expected.bytes))?;
+        match &self.got {
+            Ok(got) => write!(out, "got words: {:?}\ngot bytes: {}", got.words, hex(&got.bytes)),
+            Err(why) => write!(out, "got nothing: {why}"),
+        }
+    }
+}
+
+impl Difference {
+    fn task(&self) -> Option<Task> {
+        self.request.words.get(..WORDS).map(Task::from_words)
+    }
+
+    /// The file that the request speaks of: its task's, or the bytes it lends. A malformed task has none.
+    fn file(&self) -> Vec<u8> {
+        match self.task() {
+            Some(task) if task.well_formed() => file_of(&task),
+            Some(_) => vec![],
+            None => self.request.bytes.clone(),
+        }
+    }
+
+    /// The words that the file does not say: those after a well-formed task, or all.
+    fn other_words(&self) -> &[u64] {
+        match self.task() {
+            Some(task) if task.well_formed() => &self.request.words[WORDS..],
+            _ => &self.request.words,
+        }
+    }
+}
+
+fn hex(bytes: &[u8]) -> String {
+    bytes.iter().map(|byte| format!("{byte:02x}")).collect::<Vec<_>>().join(" ")
+}
+
+const NUMBERS: usize = 16;
+const FIRST_NUMBERS: usize = 9;
+
+/// How much was compared, and what was met on the way.
+#[derive(Default)]
+pub struct Counts {
+    pub tasks: usize,
+    pub files: usize,
+    pub edits: usize,
+    /// Responses compared, each in every word and byte.
+    pub answers: usize,
+    /// Fresh solves by the definition that equalled a session's listing.
+    pub agreements: usize,
+    /// Solves and listings whose solve was compared with the join of the rows.
+    joined: usize,
+    /// Requests not sent, because their answer was too dear to enumerate, per call.
+    skipped: [usize; CALLS.len()],
+    /// Responses per call and refusal number.
+    numbers: [[usize; NUMBERS]; CALLS.len()],
+    /// First numbers of the rows of opened tables.
+    rows: [usize; FIRST_NUMBERS],
+}
+
+fn index(call: Call) -> usize {
+    call as usize - 1
+}
+
+/// A response's number: its first word. A listing has no words; there it stands in the last line, if that is a refusal.
+fn number_of(response: &Response) -> usize {
+    match response.words.first() {
+        Some(&number) => number as usize,
+        None => {
+            let text = String::from_utf8_lossy(&response.bytes);
+            let refused = text.lines().last().and_then(|line| line.strip_prefix("refused "));
+            refused.and_then(|rest| rest.split(' ').next()?.parse().ok()).unwrap_or(0)
+        }
+    }
+}
+
+impl Counts {
+    pub fn skip(&mut self, call: Call) {
+        self.skipped[index(call)] += 1;
+    }
+
+    pub fn take(&mut self, request: &Request, expected: &Response, means: Means) {
+        self.answers += 1;
+        self.joined += (means == Means::Join) as usize;
+        let number = number_of(expected);
+        self.numbers[index(request.call)][number] += 1;
+        if request.call == Call::Open && number == 0 {
+            let numbers = crate::protocol::numbers_of(&expected.bytes);
+            numbers.chunks(ROW).for_each(|row| self.rows[row[0] as usize] += 1);
+        }
+    }
+}
+
+impl fmt::Display for Counts {
+    fn fmt(&self, out: &mut fmt::Formatter) -> fmt::Result {
+        for call in CALLS {
+            write!(out, "{call:?}:")?;
+            for (number, count) in self.numbers[index(call)].iter().enumerate().filter(|(_, &count)| count > 0) {
+                match number {
+                    0 => write!(out, " answered {count}")?,
+                    _ => write!(out, ", refused {number}: {count}")?,
+                }
+            }
+            writeln!(out, ", skipped as too dear {}", self.skipped[index(call)])?;
+        }
+        writeln!(out, "rows opened, by first number 0 to 8: {:?}", self.rows)?;
+        writeln!(out, "solves compared with joined rows only: {}", self.joined)?;
+        writeln!(out, "fresh solves that equalled a session's list: {}", self.agreements)?;
+        write!(
+            out,
+            "compared {} tasks, {} files, {} edits: {} answers, none different, {} skipped as too dear",
+            self.tasks,
+            self.files,
+            self.edits,
+            self.answers,
+            self.skipped.iter().sum::<usize>()
+        )
+    }
+}

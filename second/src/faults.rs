@@ -1,0 +1,327 @@
+//! Deliberate faults for the self-driver, among them 01's "errors that look right": the comparison must find each.
+
+use crate::answer::Budget;
+use crate::drive::Broken;
+use crate::file::{records, Record, STEP};
+use crate::protocol::{bytes_of, numbers_of, Call, Request, Response};
+use crate::repair::{all_permitted, repaired, Repair};
+use crate::run::{after, valid};
+use crate::session::{in_form, row_of, ROW, TABLE, UNUSED};
+use crate::task::{has, Action, Task, MOST_FACTS, MOST_STEPS, WORDS};
+
+/// A fault makes a wrong response of a request and the right response.
+pub type Fault = fn(&mut Broken, &Request, Response) -> Response;
+
+/// The faults by name.
+pub const FAULTS: [(&str, Fault); 23] = [
+    ("limit-below", limit_below),
+    ("equal-neighbours", equal_neighbours),
+    ("range-after-order", range_after_order),
+    ("short-body-at-end", short_body_at_end),
+    ("past-end-at-length", past_end_at_length),
+    ("bytes-after-end", bytes_after_end),
+    ("no-64th-step", no_64th_step),
+    ("no-fact-63", no_fact_63),
+    ("unused-actions", unused_actions),
+    ("delete-wins", delete_wins),
+    ("steps-for-facts", steps_for_facts),
+    ("last-of-shortest", last_of_shortest),
+    ("shortest-for-inclusion", shortest_for_inclusion),
+    ("goals-dropped", goals_dropped),
+    ("refused-solve-writes", refused_solve_writes),
+    ("refused-gives-zeros", refused_gives_zeros),
+    ("row-six-is-seven", row_six_is_seven),
+    ("longer-table", longer_table),
+    ("stale-row", stale_row),
+    ("all-rows-afresh", all_rows_afresh),
+    ("later-edits-echo", later_edits_echo),
+    ("outside-before-length", outside_before_length),
+    ("form-of-used-places-only", form_of_used_places_only),
+];
+
+fn task_of(request: &Request) -> Option<Task> {
+    request.words.get(..WORDS).map(Task::from_words)
+}
+
+fn refused_with(response: &Response, number: u64) -> bool {
+    response.words.first() == Some(&number)
+}
+
+/// The limit compared with < instead of <=.
+fn limit_below(_: &mut Broken, request: &Request, right: Response) -> Response {
+    let limit = task_of(request).map_or(0, |task| task.limit as u64);
+    if request.call == Call::Solve && refused_with(&right, 0) && right.words[2] == limit {
+        return Response { words: vec![10, 0, 0], bytes: request.bytes.clone() };
+    }
+    right
+}
+
+/// The records of a file with the places where they start.
+fn placed(file: &[u8]) -> Vec<(usize, Record<'_>)> {
+    records(file).into_iter().map(|record| (record.start - 1, record)).collect()
+}
+
+/// Bodies that are equal count as ascending.
+fn equal_neighbours(broken: &mut Broken, request: &Request, right: Response) -> Response {
+    if request.call != Call::Read || !refused_with(&right, 6) {
+        return right;
+    }
+    let place = right.words[1] as usize;
+    let records = placed(&request.bytes);
+    let same = records.windows(2).find(|pair| pair[1].0 == place && pair[0].1.body == pair[1].1.body);
+    match same {
+        Some([(_, last), (_, again)]) if last.kind == again.kind => {
+            let bytes = [&request.bytes[..place], &request.bytes[again.next..]].concat();
+            broken.right(&Request { bytes, ..request.clone() })
+        }
+        _ => right,
+    }
+}
+
+/// Order is judged before the range of numbers.
+fn range_after_order(_: &mut Broken, request: &Request, mut right: Response) -> Response {
+    if request.call == Call::Read && refused_with(&right, 5) {
+        let place = right.words[1] as usize;
+        let records = placed(&request.bytes);
+        if records.windows(2).any(|pair| pair[1].0 == place && pair[1].1.kind < pair[0].1.kind) {
+            right.words[0] = 6;
+        }
+    }
+    right
+}
+
+/// A body that passes the end is placed at the end of the file.
+fn short_body_at_end(_: &mut Broken, request: &Request, mut right: Response) -> Response {
+    if request.call == Call::Read && refused_with(&right, 1) {
+        right.words[1] = request.bytes.len() as u64;
+    }
+    right
+}
+
+/// Asked past the end, the record reader gives the file's length as the place.
+fn past_end_at_length(_: &mut Broken, request: &Request, mut right: Response) -> Response {
+    if request.call == Call::Record && refused_with(&right, 1) {
+        right.words[1] = right.words[1].min(request.bytes.len() as u64);
+    }
+    right
+}
+
+/// Bytes after the end are passed over.
+fn bytes_after_end(broken: &mut Broken, request: &Request, right: Response) -> Response {
+    if request.call == Call::Read && refused_with(&right, 8) {
+        let bytes = request.bytes[..right.words[1] as usize].to_vec();
+        return broken.right(&Request { bytes, ..request.clone() });
+    }
+    right
+}
+
+/// The 64th step is one too many.
+fn no_64th_step(_: &mut Broken, request: &Request, right: Response) -> Response {
+    if request.call != Call::Read || !refused_with(&right, 0) {
+        return right;
+    }
+    let steps: Vec<_> = placed(&request.bytes).into_iter().filter(|(_, record)| record.kind == STEP).collect();
+    match steps.get(MOST_STEPS - 1) {
+        Some((place, _)) => {
+            let words = [&[7, *place as u64][..], &Task::zeros().words()].concat();
+            Response { words, bytes: vec![] }
+        }
+        None => right,
+    }
+}
+
+/// With 64 facts the last one counts as outside (a shift by 64).
+fn no_fact_63(_: &mut Broken, request: &Request, right: Response) -> Response {
+    match task_of(request) {
+        Some(task) if request.call == Call::Check && task.facts == MOST_FACTS && has(task.start, 63) => {
+            Response { words: vec![12, 0, 0, 0, 0], bytes: vec![] }
+        }
+        _ => right,
+    }
+}
+
+/// What stands for unused actions is not looked at.
+fn unused_actions(broken: &mut Broken, request: &Request, right: Response) -> Response {
+    match task_of(request) {
+        Some(mut task) if request.call == Call::Check && refused_with(&right, 12) => {
+            task.table.iter_mut().skip(task.actions).for_each(|action| *action = Action::default());
+            broken.with_task(request, &task)
+        }
+        _ => right,
+    }
+}
+
+/// Delete wins where an action both adds and deletes a fact.
+fn delete_wins(broken: &mut Broken, request: &Request, right: Response) -> Response {
+    match task_of(request) {
+        Some(mut task) if request.call == Call::Check => {
+            task.table.iter_mut().for_each(|action| action.adds &= !action.deletes);
+            broken.with_task(request, &task)
+        }
+        _ => right,
+    }
+}
+
+/// The total counts steps with an open need instead of absent facts.
+fn steps_for_facts(_: &mut Broken, request: &Request, mut right: Response) -> Response {
+    if request.call == Call::Check && refused_with(&right, 0) {
+        let task = Task::from_words(&request.words);
+        let mut state = task.start;
+        let mut total = 0;
+        for action in task.run() {
+            total += (action.needs & !state != 0) as u64;
+            state = after(state, action);
+        }
+        right.words[2] = total + (task.goal & !state != 0) as u64;
+    }
+    right
+}
+
+/// Of the lists of one repair the last that works is given.
+fn last_of_shortest(_: &mut Broken, request: &Request, mut right: Response) -> Response {
+    if request.call == Call::Solve && refused_with(&right, 0) && right.words[2] == 1 {
+        let task = Task::from_words(&request.words);
+        let permitted = all_permitted(&task);
+        if let Some(last) = permitted.iter().rev().find(|&&repair| valid(&repaired(&task, &[repair]))) {
+            right.bytes[..2].copy_from_slice(&last.number().to_le_bytes());
+        }
+    }
+    right
+}
+
+/// A list from which no repair can be left out is taken for a shortest one.
+fn shortest_for_inclusion(_: &mut Broken, request: &Request, right: Response) -> Response {
+    if request.call != Call::Solve || !refused_with(&right, 0) {
+        return right;
+    }
+    let task = Task::from_words(&request.words);
+    let mut list = all_permitted(&task);
+    for repair in all_permitted(&task) {
+        let rest: Vec<Repair> = list.iter().copied().filter(|&other| other != repair).collect();
+        if valid(&repaired(&task, &rest)) {
+            list = rest;
+        }
+    }
+    let mut numbers = numbers_of(&request.bytes);
+    if list.len() > task.limit || list.len() > numbers.len() {
+        return right;
+    }
+    numbers.iter_mut().zip(&list).for_each(|(number, repair)| *number = repair.number());
+    Response { words: vec![0, 0, list.len() as u64], bytes: bytes_of(&numbers) }
+}
+
+/// Goals are dropped where they are not met.
+fn goals_dropped(broken: &mut Broken, request: &Request, right: Response) -> Response {
+    match task_of(request) {
+        Some(task) if request.call == Call::Solve && task.well_formed() => {
+            broken.with_task(request, &Task { goal: 0, ..task })
+        }
+        _ => right,
+    }
+}
+
+/// A refused solve writes one number into the room.
+fn refused_solve_writes(_: &mut Broken, request: &Request, mut right: Response) -> Response {
+    if request.call == Call::Solve && refused_with(&right, 10) && right.bytes.len() >= 2 {
+        right.bytes[..2].copy_from_slice(&UNUSED.to_le_bytes());
+    }
+    right
+}
+
+/// A refused edit or applying gives a task of zeros instead of the task it was given.
+fn refused_gives_zeros(_: &mut Broken, request: &Request, mut right: Response) -> Response {
+    if [Call::Edit, Call::Apply].contains(&request.call) && !refused_with(&right, 0) {
+        right.words[2..].fill(0);
+    }
+    right
+}
+
+/// A list of six counts as more than six.
+fn row_six_is_seven(_: &mut Broken, request: &Request, mut right: Response) -> Response {
+    if request.call == Call::Open && refused_with(&right, 0) {
+        let mut table = numbers_of(&right.bytes);
+        for row in table.chunks_mut(ROW).filter(|row| row[0] == 6) {
+            row.copy_from_slice(&row_of(7, &[]));
+        }
+        right.bytes = bytes_of(&table);
+    }
+    right
+}
+
+/// A table longer than 448 is opened all the same.
+fn longer_table(broken: &mut Broken, request: &Request, right: Response) -> Response {
+    let length = 2 * TABLE;
+    if request.call != Call::Open || !refused_with(&right, 13) || request.bytes.len() <= length {
+        return right;
+    }
+    let (table, rest) = request.bytes.split_at(length);
+    let mut response = broken.right(&Request { bytes: table.to_vec(), ..request.clone() });
+    response.bytes.extend(rest);
+    response
+}
+
+/// An edit leaves its row as it was.
+fn stale_row(_: &mut Broken, request: &Request, mut right: Response) -> Response {
+    if request.call == Call::Edit {
+        right.bytes = request.bytes.clone();
+    }
+    right
+}
+
+/// An edit writes all rows afresh, and not only its own.
+fn all_rows_afresh(_: &mut Broken, request: &Request, mut right: Response) -> Response {
+    if request.call == Call::Edit && refused_with(&right, 0) {
+        let edited = Task::from_words(&right.words[2..]);
+        if let Ok(rows) = crate::session::rows(&edited, Budget::of(1_000_000)) {
+            right.bytes = bytes_of(&rows);
+        }
+    }
+    right
+}
+
+/// The first thousand edits are made, later ones only echo what they were given.
+fn later_edits_echo(broken: &mut Broken, request: &Request, right: Response) -> Response {
+    if request.call != Call::Edit || !refused_with(&right, 0) {
+        return right;
+    }
+    broken.edits += 1;
+    if broken.edits <= 1000 {
+        return right;
+    }
+    let words = [&[0, 0], &request.words[..WORDS]].concat();
+    Response { words, bytes: request.bytes.clone() }
+}
+
+/// An edit outside is refused with 14 even where its table has a wrong length.
+fn outside_before_length(broken: &mut Broken, request: &Request, right: Response) -> Response {
+    if request.call != Call::Edit || !refused_with(&right, 13) {
+        return right;
+    }
+    let bytes = vec![0; 2 * TABLE];
+    let mut response = broken.right(&Request { bytes, ..request.clone() });
+    if !refused_with(&response, 14) {
+        return right;
+    }
+    response.bytes = request.bytes.clone();
+    response
+}
+
+/// Listing does not ask that unused places of a row hold 65535.
+fn form_of_used_places_only(broken: &mut Broken, request: &Request, right: Response) -> Response {
+    if request.call != Call::List || !refused_with(&right, 13) {
+        return right;
+    }
+    let task = Task::from_words(&request.words[..WORDS]);
+    let mut numbers = numbers_of(&request.bytes);
+    if request.words[WORDS] as usize != TABLE {
+        return right;
+    }
+    for row in numbers[..TABLE].chunks_mut(ROW).filter(|row| row[0] < ROW as u16) {
+        let used = row[0] as usize;
+        row[1 + used..].fill(UNUSED);
+    }
+    if !in_form(&task, &numbers[..TABLE]) {
+        return right;
+    }
+    broken.right(&Request { bytes: bytes_of(&numbers), ..request.clone() })
+}

@@ -1,0 +1,194 @@
+//! The task file ("The task file"): the record reader, the reader of a whole file, and the writer.
+
+use crate::answer::lend;
+use crate::refusal::{at, Ground, Refusal};
+use crate::task::{has, sizes_in_range, with, Action, Facts, Task, MOST_STEPS};
+
+pub const SIZES: u8 = 1;
+pub const START: u8 = 2;
+pub const GOAL: u8 = 3;
+pub const NEED: u8 = 4;
+pub const ADD: u8 = 5;
+pub const DELETE: u8 = 6;
+pub const STEP: u8 = 7;
+pub const END: u8 = 8;
+
+/// How many bytes a kind's body has; none if there is no such kind.
+pub fn body_length(kind: u8) -> Option<usize> {
+    match kind {
+        SIZES => Some(3),
+        START | GOAL | STEP => Some(1),
+        NEED | ADD | DELETE => Some(2),
+        END => Some(0),
+        _ => None,
+    }
+}
+
+/// A record of a file; its body is that part of the file.
+#[derive(Clone, Copy, PartialEq, Eq, Debug)]
+pub struct Record<'a> {
+    pub kind: u8,
+    pub body: &'a [u8],
+    /// Where the body starts, and where the next record starts.
+    pub start: usize,
+    pub next: usize,
+}
+
+/// The known kind at a place: 1 at or past the end, 2 for an unknown one.
+fn kind_at(file: &[u8], place: usize) -> Result<u8, Refusal> {
+    let kind = *file.get(place).ok_or(at(Ground::NoEnd, place))?;
+    match body_length(kind) {
+        Some(_) => Ok(kind),
+        None => Err(at(Ground::UnknownKind, place)),
+    }
+}
+
+/// The record at any place of a file: 1 or 2 at that place if there is none.
+pub fn record_at(file: &[u8], place: usize) -> Result<Record<'_>, Refusal> {
+    let kind = kind_at(file, place)?;
+    let start = place + 1;
+    let next = start + body_length(kind).unwrap_or(0);
+    let body = file.get(start..next).ok_or(at(Ground::NoEnd, place))?;
+    Ok(Record { kind, body, start, next })
+}
+
+/// The records from the start of a file on, up to its end record or the first place without a record.
+pub fn records(file: &[u8]) -> Vec<Record<'_>> {
+    let mut found: Vec<Record> = Vec::new();
+    while !found.last().is_some_and(|last| last.kind == END) {
+        let place = found.last().map_or(0, |last| last.next);
+        match record_at(file, place) {
+            Ok(record) => found.push(record),
+            Err(_) => break,
+        }
+    }
+    found
+}
+
+/// Reads a whole file. The first faulty record decides; within it 1 (no kind byte), 2, 3, 1 (short body), 4, 5, 6, 7;
+/// then 8 after a good end.
+pub fn read(file: &[u8]) -> Result<Task, Refusal> {
+    let mut reading = Reading { task: Task::zeros(), last: None };
+    let mut place = 0;
+    loop {
+        let kind = kind_at(file, place)?;
+        reading.size_record_comes_first_and_once(kind, place)?;
+        let record = record_at(file, place)?;
+        reading.numbers_fit(&record, place)?;
+        reading.order_holds(&record, place)?;
+        reading.take(&record, place)?;
+        place = record.next;
+        if record.kind == END {
+            break;
+        }
+        reading.last = Some(record);
+    }
+    if place < file.len() {
+        return Err(at(Ground::AfterEnd, place));
+    }
+    Ok(reading.task)
+}
+
+/// What has been read so far, and the last record.
+struct Reading<'a> {
+    task: Task,
+    last: Option<Record<'a>>,
+}
+
+impl<'a> Reading<'a> {
+    fn size_record_comes_first_and_once(&self, kind: u8, place: usize) -> Result<(), Refusal> {
+        let first = self.last.is_none();
+        if first != (kind == SIZES) {
+            return Err(at(Ground::SizeRecord, place));
+        }
+        Ok(())
+    }
+
+    /// Refusals 4 and 5.
+    fn numbers_fit(&self, record: &Record, place: usize) -> Result<(), Refusal> {
+        let fact = |number: u8| (number as usize) < self.task.facts;
+        let action = |number: u8| (number as usize) < self.task.actions;
+        let body = record.body;
+        let fits = match record.kind {
+            SIZES => {
+                let in_range = sizes_in_range(body[0] as usize, body[1] as usize, body[2] as usize);
+                return if in_range { Ok(()) } else { Err(at(Ground::SizeRange, place)) };
+            }
+            START | GOAL => fact(body[0]),
+            NEED | ADD | DELETE => action(body[0]) && fact(body[1]),
+            STEP => action(body[0]),
+            _ => true,
+        };
+        if fits {
+            Ok(())
+        } else {
+            Err(at(Ground::Outside, place))
+        }
+    }
+
+    /// "Kinds never go down. Within each of kinds 2 to 6 the bodies strictly ascend, first number first."
+    fn order_holds(&self, record: &Record, place: usize) -> Result<(), Refusal> {
+        let Some(last) = self.last else { return Ok(()) };
+        let down = record.kind < last.kind;
+        let same = record.kind == last.kind && (START..=DELETE).contains(&record.kind);
+        if down || (same && record.body <= last.body) {
+            return Err(at(Ground::Order, place));
+        }
+        Ok(())
+    }
+
+    /// Takes a record that fits into the task; a 65th step is refused.
+    fn take(&mut self, record: &Record, place: usize) -> Result<(), Refusal> {
+        let task = &mut self.task;
+        let set = |facts: &mut Facts, fact: u8| *facts = with(*facts, fact as usize, true);
+        match (record.kind, record.body) {
+            (SIZES, &[facts, actions, limit]) => *task = Task::sized(facts as usize, actions as usize, limit as usize),
+            (START, &[fact]) => set(&mut task.start, fact),
+            (GOAL, &[fact]) => set(&mut task.goal, fact),
+            (NEED, &[action, fact]) => set(&mut task.table[action as usize].needs, fact),
+            (ADD, &[action, fact]) => set(&mut task.table[action as usize].adds, fact),
+            (DELETE, &[action, fact]) => set(&mut task.table[action as usize].deletes, fact),
+            (STEP, &[_]) if task.count == MOST_STEPS => return Err(at(Ground::TooManySteps, place)),
+            (STEP, &[action]) => task.push_step(action as usize),
+            _ => {}
+        }
+        Ok(())
+    }
+}
+
+/// The file of a well-formed task.
+pub fn file_of(task: &Task) -> Vec<u8> {
+    let mut file = vec![SIZES, task.facts as u8, task.actions as u8, task.limit as u8];
+    for (kind, set) in [(START, task.start), (GOAL, task.goal)] {
+        for fact in (0..task.facts).filter(|&fact| has(set, fact)) {
+            file.extend([kind, fact as u8]);
+        }
+    }
+    for kind in [NEED, ADD, DELETE] {
+        for (index, action) in task.table[..task.actions].iter().enumerate() {
+            for fact in (0..task.facts).filter(|&fact| has(cells(action, kind), fact)) {
+                file.extend([kind, index as u8, fact as u8]);
+            }
+        }
+    }
+    for &step in &task.steps[..task.count] {
+        file.extend([STEP, step]);
+    }
+    file.push(END);
+    file
+}
+
+/// The set of an action that the records of this kind list.
+fn cells(action: &Action, kind: u8) -> Facts {
+    match kind {
+        NEED => action.needs,
+        ADD => action.adds,
+        _ => action.deletes,
+    }
+}
+
+/// Writes a task's file into lent room: 12, then 11. Gives its length.
+pub fn write(task: &Task, room: &mut [u8]) -> Result<usize, Refusal> {
+    task.must_be_well_formed()?;
+    lend(&file_of(task), room)
+}

@@ -1,0 +1,186 @@
+//! Answers every request of the protocol from this program's own reading of document 01.
+
+use crate::answer::{answer, lend, Budget};
+use crate::file::{read, record_at, write};
+use crate::listing::listing_by;
+use crate::protocol::{bytes_of, numbers_of, Call, Request, Response};
+use crate::refusal::{Refusal, Stop};
+use crate::repair::apply;
+use crate::run::check;
+use crate::session::{edit, joined_answer, list, open, Cell, Edit};
+use crate::task::{Task, WORDS};
+
+/// How many lists one solve, and one row, may simulate.
+#[derive(Clone, Copy)]
+pub struct Budgets {
+    pub solve: Budget,
+    pub row: Budget,
+}
+
+impl Budgets {
+    /// What keeps 100,000 random tasks within minutes.
+    pub fn modest() -> Budgets {
+        Budgets { solve: Budget::of(60_000), row: Budget::of(200_000) }
+    }
+}
+
+/// How the answer of a solve was found.
+#[derive(Clone, Copy, PartialEq, Eq, Debug)]
+pub enum Means {
+    /// No solve was asked for, or its task was refused.
+    None,
+    Enumeration,
+    /// Enumerating the lists of the whole table was too dear; the rows were enumerated and joined.
+    Join,
+}
+
+/// The reference, which remembers its last solve: one task is solved into several rooms.
+pub struct Reference {
+    budgets: Budgets,
+    last: Option<(Task, Means, Result<Vec<u16>, Stop>)>,
+    /// How the last request's solve was found.
+    pub means: Means,
+}
+
+impl Reference {
+    pub fn new(budgets: Budgets) -> Reference {
+        Reference { budgets, last: None, means: Means::None }
+    }
+
+    /// The response that document 01 demands; none if it is too dear to enumerate.
+    pub fn respond(&mut self, request: &Request) -> Option<Response> {
+        self.means = Means::None;
+        let words = &request.words;
+        let bytes = &request.bytes;
+        match request.call {
+            Call::Record => Some(record_response(bytes, words[0])),
+            Call::Read => Some(read_response(bytes)),
+            Call::Write => {
+                let mut room = bytes.clone();
+                let length = write(&Task::from_words(words), &mut room);
+                length_response(length.map_err(Stop::from), room)
+            }
+            Call::Check => Some(check_response(&Task::from_words(words))),
+            Call::Apply => {
+                let task = Task::from_words(words);
+                task_response(&task, apply(&task, &numbers_of(bytes)).map_err(Stop::from), vec![])
+            }
+            Call::Solve => {
+                let mut room = numbers_of(bytes);
+                let found = self.solve(&Task::from_words(words));
+                let length = found.and_then(|list| Ok(lend(&list, &mut room)?));
+                length_response(length, bytes_of(&room))
+            }
+            Call::Open => {
+                let mut table = numbers_of(bytes);
+                let length = open(&Task::from_words(words), &mut table, self.budgets.row);
+                length_response(length, bytes_of(&table))
+            }
+            Call::Edit => self.edit_response(words, bytes),
+            Call::List => list_response(words, bytes),
+            Call::Listing => {
+                let text = listing_by(bytes, |task| self.solve(task)).ok()?;
+                Some(Response { words: vec![], bytes: text.into_bytes() })
+            }
+        }
+    }
+
+    /// The answer by its definition, or by the join of rows where that is too dear.
+    fn solve(&mut self, task: &Task) -> Result<Vec<u16>, Stop> {
+        if !self.last.as_ref().is_some_and(|(last, _, _)| last == task) {
+            let (means, found) = match answer(task, self.budgets.solve) {
+                Err(Stop::TooDear) => (Means::Join, joined_answer(task, self.budgets.row)),
+                found => (Means::Enumeration, found),
+            };
+            self.last = Some((*task, means, found));
+        }
+        let (_, means, found) = self.last.clone().expect("the solve was just remembered");
+        self.means = means;
+        found
+    }
+
+    fn edit_response(&self, words: &[u64], bytes: &[u8]) -> Option<Response> {
+        let (task, asked) = edit_of(words);
+        let mut table = numbers_of(bytes);
+        let edited = edit(&task, &asked, &mut table, self.budgets.row);
+        task_response(&task, edited, bytes_of(&table))
+    }
+}
+
+/// The task and the edit that an edit request's words name.
+fn edit_of(words: &[u64]) -> (Task, Edit) {
+    let (task, rest) = words.split_at(WORDS);
+    let action = rest[1];
+    let cell = match rest[0] {
+        0 => Cell::Need { action },
+        1 => Cell::Add { action },
+        2 => Cell::Delete { action },
+        3 => Cell::Start,
+        _ => Cell::Goal,
+    };
+    (Task::from_words(task), Edit { cell, fact: rest[2], present: rest[3] == 1 })
+}
+
+fn record_response(file: &[u8], place: u64) -> Response {
+    match record_at(file, place as usize) {
+        Ok(record) => Response {
+            words: [0, 0, record.kind as usize, record.start, record.body.len(), record.next]
+                .map(|n| n as u64)
+                .to_vec(),
+            bytes: record.body.to_vec(),
+        },
+        Err(refusal) => refused(&refusal, &[0; 4], vec![]),
+    }
+}
+
+fn read_response(file: &[u8]) -> Response {
+    match read(file) {
+        Ok(task) => accepted(&task.words(), vec![]),
+        Err(refusal) => refused(&refusal, &Task::zeros().words(), vec![]),
+    }
+}
+
+fn check_response(task: &Task) -> Response {
+    match check(task) {
+        Ok(open) => accepted(&[open.total, open.step, open.fact], vec![]),
+        Err(refusal) => refused(&refusal, &[0; 3], vec![]),
+    }
+}
+
+/// The request's words are a task and how many of its numbers are the table; the others are the room.
+fn list_response(words: &[u64], bytes: &[u8]) -> Option<Response> {
+    let (task, rest) = words.split_at(WORDS);
+    let numbers = numbers_of(bytes);
+    let (table, room) = numbers.split_at(rest[0] as usize);
+    let mut room = room.to_vec();
+    let joined = list(&Task::from_words(task), table);
+    let length = joined.and_then(|list| lend(&list, &mut room));
+    length_response(length.map_err(Stop::from), bytes_of(&room))
+}
+
+/// Number, place, length, and what was lent.
+fn length_response(length: Result<usize, Stop>, lent: Vec<u8>) -> Option<Response> {
+    match length {
+        Ok(length) => Some(accepted(&[length as u64], lent)),
+        Err(Stop::Refused(refusal)) => Some(refused(&refusal, &[0], lent)),
+        Err(Stop::TooDear) => None,
+    }
+}
+
+/// Number, place, the new task or, refused, "the task it was given", and what was lent.
+fn task_response(given: &Task, result: Result<Task, Stop>, lent: Vec<u8>) -> Option<Response> {
+    match result {
+        Ok(task) => Some(accepted(&task.words(), lent)),
+        Err(Stop::Refused(refusal)) => Some(refused(&refusal, &given.words(), lent)),
+        Err(Stop::TooDear) => None,
+    }
+}
+
+/// "Success has number 0 and place 0."
+fn accepted(values: &[u64], bytes: Vec<u8>) -> Response {
+    Response { words: [&[0, 0], values].concat(), bytes }
+}
+
+fn refused(refusal: &Refusal, values: &[u64], bytes: Vec<u8>) -> Response {
+    Response { words: [&[refusal.number(), refusal.place], values].concat(), bytes }
+}

@@ -1,0 +1,55 @@
+//! The comparison finds nothing in a right driver, and finds each deliberate fault.
+
+use std::process::{Command, Output};
+
+const SECOND: &str = env!("CARGO_BIN_EXE_second");
+
+fn compare(driver: &[&str]) -> Output {
+    let mut command = Command::new(SECOND);
+    command.args(["compare", "--driver"]).args(driver).arg("--");
+    command.args(["--seed", "7", "--tasks", "1500", "--files", "1500", "--edits", "1500"]);
+    command.output().expect("the second program runs")
+}
+
+fn text(output: &Output) -> String {
+    String::from_utf8_lossy(&output.stdout).into_owned()
+}
+
+fn faults() -> Vec<String> {
+    let named = Command::new(SECOND).args(["drive", "faults"]).output().expect("the second program runs");
+    text(&named).lines().map(str::to_string).collect()
+}
+
+#[test]
+fn a_right_driver_passes() {
+    let output = compare(&[SECOND, "drive"]);
+    assert!(output.status.success(), "{}", text(&output));
+    assert!(text(&output).starts_with("seed 7\n"));
+    assert!(text(&output).contains("compared 1500 tasks, 1500 files, 1500 edits"));
+}
+
+#[test]
+fn each_fault_is_found_and_shown() {
+    let faults = faults();
+    assert!(faults.len() >= 20, "the faults are named");
+    for fault in faults {
+        let output = compare(&[SECOND, "drive", "--break", &fault]);
+        assert_eq!(output.status.code(), Some(1), "{fault} passed:\n{}", text(&output));
+        assert!(text(&output).contains("different: seed 7, case"), "{fault}");
+        assert!(text(&output).contains("\nfile: "), "{fault}");
+        assert!(text(&output).contains("\ngot words: "), "{fault}: the driver died of it, and did not answer wrongly");
+    }
+}
+
+#[test]
+fn a_driver_that_says_nothing_is_found() {
+    let output = compare(&["true"]);
+    assert_eq!(output.status.code(), Some(1));
+    assert!(text(&output).contains("got nothing"));
+}
+
+#[test]
+fn a_driver_that_is_not_there_is_told() {
+    let output = compare(&["./no-such-driver"]);
+    assert_eq!(output.status.code(), Some(2));
+}
