@@ -1,0 +1,163 @@
+/* bench FILE..: times the calls of the proved library on task files, through its C header. One line a file: what
+ * solving gave, then nanoseconds a call, `minimum median` for each call, by the monotonic clock.
+ *
+ * A sample is so many calls in a row that the clock's own cost does not show; the minimum and the median are over the
+ * samples. An edit is one present cell set to absent, or set back: each present cell of the task is done in turn (if
+ * edits are slow, evenly spaced ones of them), the least time over the rounds is kept for each, and the line has the
+ * mean and the worst over the cells; `edit/open` is the mean against opening.
+ *
+ * Status: 2 a file cannot be opened, 3 it is refused, 4 an edit and its undoing do not give the task, 5 no cell. */
+#define _POSIX_C_SOURCE 200809L
+#include <stdio.h>
+#include <stdlib.h>
+#include <string.h>
+#include <time.h>
+
+#include "../c/zernoplysk.h"
+
+enum { INPUT_BYTES = 20000, FACTS = 64, MOST_CELLS = 3 * ZP_ACTIONS * FACTS + 2 * FACTS };
+
+/* How many samples (rounds, for edits) at most and at least; a sample's least time; about how long all samples of one
+ * call take; how long the fewest rounds of edits may take, in nanoseconds. */
+enum { SAMPLES = 101, FEWEST = 3 };
+static const double sample_time = 2e4, call_time = 2e8, edits_time = 5e9;
+
+static uint8_t file[INPUT_BYTES];
+static size_t file_len;
+static uint64_t read_answer[ZP_TASK_ANSWER_WORDS], answer[ZP_TASK_ANSWER_WORDS], back[ZP_TASK_ANSWER_WORDS];
+static const uint64_t *const task = read_answer + 2;
+static uint16_t table[ZP_TABLE_NUMBERS], room[ZP_LIST_NUMBERS];
+
+static void reading(void) { zp_read(file, file_len, read_answer, ZP_TASK_ANSWER_WORDS); }
+static void checking(void) { zp_check(task, ZP_TASK_WORDS, answer, ZP_CHECKED_WORDS); }
+static void solving(void) { zp_solve(task, ZP_TASK_WORDS, room, ZP_LIST_NUMBERS, answer, ZP_REPLY_WORDS); }
+static void opening(void) { zp_open(task, ZP_TASK_WORDS, table, ZP_TABLE_NUMBERS, answer, ZP_REPLY_WORDS); }
+static void listing(void) {
+    zp_list(task, ZP_TASK_WORDS, table, ZP_TABLE_NUMBERS, room, ZP_LIST_NUMBERS, answer, ZP_REPLY_WORDS);
+}
+
+static double now(void) {
+    struct timespec t;
+    clock_gettime(CLOCK_MONOTONIC, &t);
+    return 1e9 * (double)t.tv_sec + (double)t.tv_nsec;
+}
+
+static double timed(void (*call)(void), size_t times) {
+    double begun = now();
+    for (size_t i = 0; i < times; i++)
+        call();
+    return now() - begun;
+}
+
+static int by_size(const void *a, const void *b) {
+    double x = *(const double *)a, y = *(const double *)b;
+    return (x > y) - (x < y);
+}
+
+/* Prints the minimum and the median of the call's samples; gives the minimum. */
+static double measured(void (*call)(void)) {
+    double sample[SAMPLES], begun;
+    size_t times = 1, n = 0;
+    while (timed(call, times) < sample_time)
+        times *= 2;
+    begun = now();
+    while (n < FEWEST || (n < SAMPLES && now() - begun < call_time))
+        sample[n++] = timed(call, times) / (double)times;
+    qsort(sample, n, sizeof *sample, by_size);
+    printf(" %.0f %.0f", sample[0], sample[n / 2]);
+    return sample[0];
+}
+
+struct cell {
+    size_t kind, action, fact;
+    double least;
+};
+
+static struct cell cell[MOST_CELLS];
+static size_t cells;
+
+static void take_cells(size_t kind, size_t action, uint64_t facts) {
+    for (size_t fact = 0; fact < FACTS; fact++)
+        if (facts >> fact & 1)
+            cell[cells++] = (struct cell){kind, action, fact, 1e18};
+}
+
+/* The present cells of the task. */
+static void all_cells(void) {
+    cells = 0;
+    for (size_t a = 0; a < ZP_ACTIONS; a++) {
+        take_cells(ZP_NEED, a, task[ZP_AT_NEEDS + a]);
+        take_cells(ZP_ADD, a, task[ZP_AT_ADDS + a]);
+        take_cells(ZP_DELETE, a, task[ZP_AT_DELETES + a]);
+    }
+    take_cells(ZP_START, 0, task[ZP_AT_START]);
+    take_cells(ZP_GOAL, 0, task[ZP_AT_GOAL]);
+}
+
+/* One cell to absent and back: the second edit starts from the task that the first gave. Gives the time of one edit. */
+static double edited(const struct cell *c) {
+    double begun = now();
+    zp_edit(task, ZP_TASK_WORDS, c->kind, c->action, c->fact, 0, table, ZP_TABLE_NUMBERS, answer, ZP_TASK_ANSWER_WORDS);
+    zp_edit(answer + 2, ZP_TASK_WORDS, c->kind, c->action, c->fact, 1, table, ZP_TABLE_NUMBERS, back,
+            ZP_TASK_ANSWER_WORDS);
+    double taken = (now() - begun) / 2;
+    if (memcmp(back + 2, task, ZP_TASK_WORDS * sizeof *task) != 0)
+        exit(4);
+    return taken;
+}
+
+/* Leaves evenly spaced cells, as many as the time allows. */
+static void thin_cells(double one) {
+    size_t stride = 1 + (size_t)(2 * FEWEST * one * (double)cells / edits_time), left = 0;
+    for (size_t i = 0; i < cells; i += stride)
+        cell[left++] = cell[i];
+    cells = left;
+}
+
+/* Prints the mean and the worst edit over the cells; gives the mean. */
+static double measured_edits(void) {
+    double begun, sum = 0, worst = 0;
+    all_cells();
+    if (cells == 0)
+        exit(5);
+    thin_cells(edited(&cell[0]));
+    begun = now();
+    for (size_t round = 0; round < FEWEST || (round < SAMPLES && now() - begun < call_time); round++)
+        for (size_t i = 0; i < cells; i++) {
+            double taken = edited(&cell[i]);
+            if (taken < cell[i].least)
+                cell[i].least = taken;
+        }
+    for (size_t i = 0; i < cells; i++) {
+        sum += cell[i].least;
+        if (cell[i].least > worst)
+            worst = cell[i].least;
+    }
+    printf(" %.0f %.0f", sum / (double)cells, worst);
+    return sum / (double)cells;
+}
+
+int main(int count, char **path) {
+    printf("file outcome read . check . solve . open . edit-mean edit-worst list . edit/open\n");
+    for (int i = 1; i < count; i++) {
+        FILE *in = fopen(path[i], "rb");
+        if (in == NULL)
+            return 2;
+        file_len = fread(file, 1, sizeof file, in);
+        fclose(in);
+        reading();
+        if (read_answer[0] != 0)
+            return 3;
+        solving();
+        printf("%s %s-%llu", path[i], answer[0] == 0 ? "set" : "refused",
+               (unsigned long long)(answer[0] == 0 ? answer[2] : answer[0]));
+        measured(reading);
+        measured(checking);
+        measured(solving);
+        double open = measured(opening), edit = measured_edits();
+        measured(listing);
+        printf(" %.4f\n", edit / open);
+        fflush(stdout);
+    }
+    return 0;
+}
