@@ -7,7 +7,7 @@ use lib.Dec.{leb, ltb}
 use lib.ListN.{length, getD}
 use Rattle.table.specs.Counting.{firstWhere}
 use Rattle.table.specs.Order.{isIn}
-use Rattle.table.specs.Refusals.{Check, Refusal, firstOf, refuse, accepted, notWellFormed, listNotPermitted}
+use Rattle.table.specs.Refusals.{Check, Refusal, firstOf, refuse, refuseAt, accepted, notWellFormed, listNotPermitted}
 use Rattle.table.specs.Repairs.{permitted, repaired}
 use Rattle.table.specs.Strips.{Cells}
 use Rattle.table.specs.Tasks.{cellsOf, formed, Shaped}
@@ -27,8 +27,10 @@ firstWrong c l = firstWhere (wrongAt c l) (length l)
 unfoldable pub applyRefusal : Task → List ℕ → Refusal
 applyRefusal t l =
     firstOf
-    (refuse (not (formed t)) notWellFormed ∷
-    (record { fires = ltb (firstWrong (cellsOf (t .table)) l) (length l); number = listNotPermitted; place = firstWrong (cellsOf (t .table)) l }) ∷ [])
+    (refuse (not (formed t)) notWellFormed ∷ refuseAt wrong (ltb wrong (length l)) listNotPermitted ∷ [])
+  where
+    wrong : ℕ
+    wrong = firstWrong (cellsOf (t .table)) l
 
 -- The task u is t with the list applied, all cells at once (001, Definition 2): sizes and run as they were, and each
 -- cell that of the repaired table.

@@ -59,9 +59,12 @@ pub record Check : Type 0 where
   pub number : ℕ
   pub place : ℕ
 
--- A check at place 0, as all are but those of a file and of a list.
+-- A check at a place of a file or of a list; every other is at place 0.
+abbrev pub refuseAt : ℕ → Bool → ℕ → Check
+refuseAt p b n = record { fires = b; number = n; place = p }
+
 abbrev pub refuse : Bool → ℕ → Check
-refuse b n = record { fires = b; number = n; place = 0 }
+refuse b n = refuseAt 0 b n
 
 -- The number and the place of the first check that fires; 0 and 0 where none does.
 pub record Refusal : Type 0 where

@@ -16,8 +16,8 @@ use Rattle.table.proofs.Bools.{both}
 use Rattle.table.proofs.Formation.{byKind-all}
 use Rattle.table.specs.declared.Task.{Task}
 use Rattle.taskfile.specs.Format.{sizesKind, startKind, deleteKind}
-use Rattle.taskfile.specs.Reading.{Seen, noTask, nothingSeen, kindAt, byteAt, bodyAt, misplaced, sizesWrong, tableAfter, runAfter, seenAfter}
-use Rattle.taskfile.proofs.Ranks.{byteRoom, slots, rank, pieceAt, factPiece, cellPiece, stepPiece, sizes-once, step-shape, no-step}
+use Rattle.taskfile.specs.Reading.{byteRoom, Seen, noTask, nothingSeen, kindAt, byteAt, bodyAt, misplaced, sizesWrong, tableAfter, runAfter, seenAfter}
+use Rattle.taskfile.proofs.Ranks.{slots, rank, pieceAt, factPiece, cellPiece, stepPiece, sizes-once, step-shape, no-step}
 use Rattle.taskfile.proofs.Families.{Family, ofNone, ofSizes, ofFact, ofCell, ofStep, family}
 use Rattle.taskfile.proofs.OneMore.{taskAfter}
 use Rattle.taskfile.proofs.Clear.{Clear}

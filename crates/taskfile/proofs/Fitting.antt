@@ -11,7 +11,8 @@ use Rattle.table.specs.Sizes.{maxSteps}
 use Rattle.table.specs.Tasks.{WellFormed}
 use Rattle.table.specs.declared.Task.{Task}
 use Rattle.taskfile.specs.Format.{bodyLength, sizesKind, goalKind, needKind, deleteKind, stepKind, isCellKind}
-use Rattle.taskfile.proofs.Ranks.{byteRoom, slots}
+use Rattle.taskfile.specs.Reading.{byteRoom}
+use Rattle.taskfile.proofs.Ranks.{slots}
 use Rattle.taskfile.proofs.Families.{FactKind, CellKind}
 
 -- A record after the first that is not the end, with its numbers inside the task's sizes.

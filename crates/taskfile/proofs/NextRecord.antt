@@ -13,8 +13,8 @@ use Rattle.facts.proofs.Laws.{has-empty}
 use Rattle.table.specs.Tasks.{WellFormed}
 use Rattle.table.specs.declared.Task.{Task}
 use Rattle.taskfile.specs.Format.{startKind, deleteKind, stepKind}
-use Rattle.taskfile.specs.Reading.{Seen}
-use Rattle.taskfile.proofs.Ranks.{byteRoom, slots, rank, factSet, cellSet, factPiece, cellPiece, pieceAt, sizes-once, step-shape, some-step, no-step}
+use Rattle.taskfile.specs.Reading.{byteRoom, Seen}
+use Rattle.taskfile.proofs.Ranks.{slots, rank, factSet, cellSet, factPiece, cellPiece, pieceAt, sizes-once, step-shape, some-step, no-step}
 use Rattle.taskfile.proofs.Families.{FactKind, CellKind, Family, ofNone, ofSizes, ofFact, ofCell, ofStep, family}
 use Rattle.taskfile.proofs.Fitting.{Fits, factFits, cellFits, stepFits, told, slotOf, recordBytes, fact-bytes, cell-bytes, step-bytes}
 use Rattle.table.proofs.Bools.{by-order}

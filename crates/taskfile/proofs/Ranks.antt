@@ -17,12 +17,10 @@ use Rattle.table.specs.declared.Run.{Run}
 use Rattle.table.specs.declared.Table.{Table}
 use Rattle.table.specs.declared.Task.{Task}
 use Rattle.taskfile.specs.Format.{sizesKind, startKind, goalKind, needKind, addKind, deleteKind, stepKind, endKind, isCellKind, isFactKind, factRecords, cellRecords, stepRecords, fileOf}
+use Rattle.taskfile.specs.Reading.{byteRoom}
 use Rattle.table.proofs.GatherLaws.{gather-same, gather-none, gather-digits, gather-next, gather-zero, gather-one, gather-eight}
 
--- The numbers of one byte; the places of one kind, enough for an action and a byte.
-abbrev pub byteRoom : ℕ
-byteRoom = 256
-
+-- The places of one kind, enough for an action and a byte.
 abbrev pub slots : ℕ
 slots = maxActions * byteRoom
 

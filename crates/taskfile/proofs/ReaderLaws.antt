@@ -7,7 +7,7 @@ use borrow.Author.Tests.{eq-eqb, leb-false}
 use native.Mathlib.Omega.{arith}
 use lib.Dec.{eqb, leb}
 use lib.ListN.{drop}
-use Rattle.table.specs.Refusals.{Check, Refusal, firstOf, sizeOutside, numberOutside, notAscending, tooManySteps}
+use Rattle.table.specs.Refusals.{refuseAt, Check, Refusal, firstOf, sizeOutside, numberOutside, notAscending, tooManySteps}
 use Rattle.table.specs.Sizes.{maxSteps}
 use Rattle.taskfile.specs.Format.{sizesKind, stepKind}
 use Rattle.taskfile.specs.Reading.{Seen, kindAt, byteAt, bodyAt, sizesWrong, outside, disordered, faultsAt, faultAt}
@@ -46,13 +46,10 @@ has-room {s} {at} {seen} c e =
 -- The checks of a body over the values that the code tests.
 abbrev pub bodyTests : ℕ → ℕ → ℕ → Bool → Bool → Bool → List Check
 bodyTests at kind count wrong beyond down =
-    test (eqb kind sizesKind && wrong) sizeOutside ∷
-    test beyond numberOutside ∷
-    test down notAscending ∷
-    test (eqb kind stepKind && leb maxSteps count) tooManySteps ∷ []
-  where
-    test : Bool → ℕ → Check
-    test b n = record { fires = b; number = n; place = at }
+    refuseAt at (eqb kind sizesKind && wrong) sizeOutside ∷
+    refuseAt at beyond numberOutside ∷
+    refuseAt at down notAscending ∷
+    refuseAt at (eqb kind stepKind && leb maxSteps count) tooManySteps ∷ []
 
 pub body-tested : (s : List ℕ) (at : ℕ) (seen : Seen) {kind x y z body : ℕ} {wrong beyond down : Bool}
     → kind ≡ kindAt s at → x ≡ byteAt s at 0 → y ≡ byteAt s at 1 → z ≡ byteAt s at 2 → body ≡ bodyAt s at

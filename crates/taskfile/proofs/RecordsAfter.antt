@@ -13,8 +13,8 @@ use Rattle.table.specs.Lists.{piece}
 use Rattle.table.specs.Tasks.{WellFormed}
 use Rattle.table.specs.declared.Task.{Task}
 use Rattle.taskfile.specs.Format.{sizesKind, needKind, deleteKind, stepKind, isFactKind, isCellKind}
-use Rattle.taskfile.specs.Reading.{tableAfter, runAfter}
-use Rattle.taskfile.proofs.Ranks.{byteRoom, slots, rank, factSet, cellSet, factPiece, cellPiece, stepPiece, slotPiece, pieceAt}
+use Rattle.taskfile.specs.Reading.{byteRoom, tableAfter, runAfter}
+use Rattle.taskfile.proofs.Ranks.{slots, rank, factSet, cellSet, factPiece, cellPiece, stepPiece, slotPiece, pieceAt}
 use Rattle.taskfile.proofs.Families.{FactKind, CellKind, Family, ofNone, ofSizes, ofFact, ofCell, ofStep, family}
 use Rattle.taskfile.proofs.Fitting.{Told, slotOf, recordBytes, fact-bytes, cell-bytes, step-bytes}
 use Rattle.taskfile.proofs.OneMore.{taskAfter, has-grown, same-sizes, masks-after, steps-after}

@@ -16,7 +16,8 @@ use Rattle.table.specs.Tasks.{WellFormed}
 use Rattle.table.specs.declared.Table.{Table}
 use Rattle.table.specs.declared.Task.{Task}
 use Rattle.taskfile.specs.Format.{startKind, goalKind, needKind, addKind, deleteKind, stepKind, endKind, isFactKind, isCellKind}
-use Rattle.taskfile.proofs.Ranks.{byteRoom, slots, rank, factSet, cellSet, factPiece, cellPiece, stepPiece, slotPiece, pieceAt, some-step}
+use Rattle.taskfile.specs.Reading.{byteRoom}
+use Rattle.taskfile.proofs.Ranks.{slots, rank, factSet, cellSet, factPiece, cellPiece, stepPiece, slotPiece, pieceAt, some-step}
 use Rattle.taskfile.proofs.Families.{FactKind, CellKind, start-kind, goal-kind, need-kind, add-kind, delete-kind}
 
 -- The same sizes.

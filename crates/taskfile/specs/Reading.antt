@@ -7,7 +7,7 @@ use Prim.Native.Nat.{ℕ, _+_, _*_, _<_}
 use lib.Dec.{eqb, leb, ltb}
 use lib.ListN.{length, getD, set, replicate}
 use Rattle.facts.specs.Sets.{joined, only}
-use Rattle.table.specs.Refusals.{Check, Refusal, firstOf, accepted, noEnd, unknownKind, sizesMisplaced, sizeOutside, numberOutside, notAscending, tooManySteps, bytesAfterEnd}
+use Rattle.table.specs.Refusals.{Check, Refusal, refuseAt, firstOf, accepted, noEnd, unknownKind, sizesMisplaced, sizeOutside, numberOutside, notAscending, tooManySteps, bytesAfterEnd}
 use Rattle.table.specs.Sizes.{maxFacts, maxActions, maxSteps, maxLimit}
 use Rattle.table.specs.declared.Task.{Task}
 use Rattle.table.specs.declared.Table.{Table}
@@ -38,9 +38,13 @@ kindAt s at = getD s at 0
 abbrev pub byteAt : List ℕ → ℕ → ℕ → ℕ
 byteAt s at i = getD s (at + 1 + i) 0
 
+-- "Every number is one byte": how many there are.
+abbrev pub byteRoom : ℕ
+byteRoom = 256
+
 -- A body of one or two bytes as one number, first number first.
 unfoldable pub bodyAt : List ℕ → ℕ → ℕ
-bodyAt s at = cond (isCellKind (kindAt s at)) (256 * byteAt s at 0 + byteAt s at 1) (byteAt s at 0)
+bodyAt s at = cond (isCellKind (kindAt s at)) (byteRoom * byteAt s at 0 + byteAt s at 1) (byteAt s at 0)
 
 -- 3: "first kind isn't 1, or 1 comes again"
 unfoldable pub misplaced : Seen → ℕ → Bool
@@ -65,20 +69,17 @@ disordered seen kind body =
 -- The faults of the record at a place, in 01's order.
 unfoldable pub faultsAt : List ℕ → ℕ → Seen → List Check
 faultsAt s at seen =
-    fault (leb (length s) at) noEnd ∷
-    fault (not (isKind kind)) unknownKind ∷
-    fault (misplaced seen kind) sizesMisplaced ∷
-    fault (ltb (length s) (at + 1 + bodyLength kind)) noEnd ∷
-    fault (eqb kind sizesKind && sizesWrong (byteAt s at 0) (byteAt s at 1) (byteAt s at 2)) sizeOutside ∷
-    fault (outside (seen .task .table) kind (byteAt s at 0) (byteAt s at 1)) numberOutside ∷
-    fault (disordered seen kind (bodyAt s at)) notAscending ∷
-    fault (eqb kind stepKind && leb maxSteps (seen .task .run .count)) tooManySteps ∷ []
+    refuseAt at (leb (length s) at) noEnd ∷
+    refuseAt at (not (isKind kind)) unknownKind ∷
+    refuseAt at (misplaced seen kind) sizesMisplaced ∷
+    refuseAt at (ltb (length s) (at + 1 + bodyLength kind)) noEnd ∷
+    refuseAt at (eqb kind sizesKind && sizesWrong (byteAt s at 0) (byteAt s at 1) (byteAt s at 2)) sizeOutside ∷
+    refuseAt at (outside (seen .task .table) kind (byteAt s at 0) (byteAt s at 1)) numberOutside ∷
+    refuseAt at (disordered seen kind (bodyAt s at)) notAscending ∷
+    refuseAt at (eqb kind stepKind && leb maxSteps (seen .task .run .count)) tooManySteps ∷ []
   where
     kind : ℕ
     kind = kindAt s at
-
-    fault : Bool → ℕ → Check
-    fault b n = record { fires = b; number = n; place = at }
 
 -- One set of a row of sets, with one fact more.
 abbrev pub withCell : List ℕ → ℕ → ℕ → List ℕ

@@ -5,7 +5,7 @@ use mathlib.Core.List.{List, [], _∷_}
 use Prim.Native.Nat.{ℕ, _+_}
 use lib.Dec.{eqb, leb, ltb}
 use lib.ListN.{length, take, drop}
-use Rattle.table.specs.Refusals.{Check, Refusal, firstOf, accepted, noEnd, unknownKind}
+use Rattle.table.specs.Refusals.{Check, Refusal, refuseAt, firstOf, accepted, noEnd, unknownKind}
 use Rattle.taskfile.specs.Format.{isKind, bodyLength}
 use Rattle.taskfile.specs.Reading.{kindAt, nextAt, Seen, faultsAt}
 use Rattle.taskfile.specs.declared.record.Record.{Record}
@@ -15,13 +15,10 @@ use Rattle.taskfile.specs.declared.seen.Seen as code
 unfoldable pub recordFault : List ℕ → ℕ → Refusal
 recordFault s at =
     firstOf
-    (fault (leb (length s) at) noEnd ∷
-    fault (not (isKind (kindAt s at))) unknownKind ∷
-    fault (ltb (length s) (nextAt s at)) noEnd ∷
+    (refuseAt at (leb (length s) at) noEnd ∷
+    refuseAt at (not (isKind (kindAt s at))) unknownKind ∷
+    refuseAt at (ltb (length s) (nextAt s at)) noEnd ∷
     [])
-  where
-    fault : Bool → ℕ → Check
-    fault b n = record { fires = b; number = n; place = at }
 
 -- Beside its number and place a refused record is zeros.
 abbrev pub refusedRecord : ℕ → ℕ → Record
