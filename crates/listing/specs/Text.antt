@@ -11,6 +11,7 @@ use Rattle.table.specs.declared.Task.{Task}
 use Rattle.runcheck.specs.declared.Checked.{Checked}
 use Rattle.solve.specs.Solving.{Outcome}
 use Rattle.taskfile.specs.declared.TaskRead.{TaskRead}
+use Rattle.listing.specs.Ascii.{bytesOf}
 
 -- The bytes of ASCII that a listing has beside its words: line feed, space and the digits from 0.
 abbrev pub feed : ℕ
@@ -47,30 +48,30 @@ field n = space ∷ decimal n
 unfoldable pub line : List ℕ → List ℕ → List ℕ
 line word numbers = word ++ each field numbers ++ (feed ∷ [])
 
--- The words: task, open, set, drop-delete, add-effect, drop-need, end, refused.
+-- The words that lines begin with.
 abbrev pub taskWord : List ℕ
-taskWord = 116 ∷ 97 ∷ 115 ∷ 107 ∷ []
+taskWord = bytesOf "task"
 
 abbrev pub openWord : List ℕ
-openWord = 111 ∷ 112 ∷ 101 ∷ 110 ∷ []
+openWord = bytesOf "open"
 
 abbrev pub setWord : List ℕ
-setWord = 115 ∷ 101 ∷ 116 ∷ []
+setWord = bytesOf "set"
 
 abbrev pub dropDeleteWord : List ℕ
-dropDeleteWord = 100 ∷ 114 ∷ 111 ∷ 112 ∷ 45 ∷ 100 ∷ 101 ∷ 108 ∷ 101 ∷ 116 ∷ 101 ∷ []
+dropDeleteWord = bytesOf "drop-delete"
 
 abbrev pub addEffectWord : List ℕ
-addEffectWord = 97 ∷ 100 ∷ 100 ∷ 45 ∷ 101 ∷ 102 ∷ 102 ∷ 101 ∷ 99 ∷ 116 ∷ []
+addEffectWord = bytesOf "add-effect"
 
 abbrev pub dropNeedWord : List ℕ
-dropNeedWord = 100 ∷ 114 ∷ 111 ∷ 112 ∷ 45 ∷ 110 ∷ 101 ∷ 101 ∷ 100 ∷ []
+dropNeedWord = bytesOf "drop-need"
 
 abbrev pub endWord : List ℕ
-endWord = 101 ∷ 110 ∷ 100 ∷ []
+endWord = bytesOf "end"
 
 abbrev pub refusedWord : List ℕ
-refusedWord = 114 ∷ 101 ∷ 102 ∷ 117 ∷ 115 ∷ 101 ∷ 100 ∷ []
+refusedWord = bytesOf "refused"
 
 -- "Fields: facts, actions, limit, steps; total open needs, first step, its lowest fact; length; then action and fact of
 -- each repair."

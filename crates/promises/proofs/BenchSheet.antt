@@ -36,7 +36,7 @@ use Rattle.taskfile.proofs.Unique.{reads-unique}
 use Rattle.taskfile.specs.Reading.{ReadsFile, refusedRead, acceptedRead, noTask}
 use Rattle.taskfile.specs.declared.TaskRead.{TaskRead}
 use Rattle.promises.proofs.CertificateLaws.{certified-well, certified-only}
-use Rattle.promises.specs.Ascii.{bytesOf}
+use Rattle.listing.specs.Ascii.{bytesOf}
 use Rattle.promises.specs.Certificates.{isRight, isRightWith, mends, certifies, certified, ofFact, partsOf}
 use Rattle.promises.specs.Sheet.{reads, lists, solves, edits, Holds, AllHold, all, _and_, deleteAbsent, untouched, listingText, refusedText, sheet, figures}
 
@@ -91,13 +91,13 @@ abbrev pair : Verdict
 pair = found (97 ∷ 224 ∷ [])
 
 listing-row : Holds (lists listingFile listingText)
-unfolding certified certifies mends isRightWith isRight ofFact formed sizesFormed actionFormed maskFormed stepFormed everyBelow cellsOf courseOf stateAt permitted permits chosen isIn has within joined removed only cellSet setFact joinVerdicts joinLists someBelow isHopeless isOver foundList told textOf readText line each digits bytesOf checked openReport totalOpen firstOpen lowestOpen openAt isOpen sumBelow countBelow firstWhere
+unfolding certified certifies mends isRightWith isRight ofFact formed sizesFormed actionFormed maskFormed stepFormed everyBelow cellsOf courseOf stateAt permitted permits chosen isIn has within joined removed only cellSet setFact joinVerdicts joinLists someBelow isHopeless isOver foundList told textOf readText line each digits checked openReport totalOpen firstOpen lowestOpen openAt isOpen sumBelow countBelow firstWhere
 listing-row =
     list-row listingFile listingText (acceptedRead listingTask) (told pair answerRoom) listing-file
     (solve-row listingTask pair refl refl answerRoom .allowed) refl
 
 refused-row : Holds (lists (listingFile ++ (0x00 ∷ [])) refusedText)
-unfolding certified certifies mends isRightWith isRight ofFact formed sizesFormed actionFormed maskFormed stepFormed everyBelow cellsOf courseOf stateAt permitted permits chosen isIn has within joined removed only cellSet setFact joinVerdicts joinLists someBelow isHopeless isOver foundList told textOf readText line each digits bytesOf checked
+unfolding certified certifies mends isRightWith isRight ofFact formed sizesFormed actionFormed maskFormed stepFormed everyBelow cellsOf courseOf stateAt permitted permits chosen isIn has within joined removed only cellSet setFact joinVerdicts joinLists someBelow isHopeless isOver foundList told textOf readText line each digits checked
 refused-row =
     list-row (listingFile ++ (0x00 ∷ [])) refusedText (refusedRead bytesAfterEnd 36) (refused notWellFormed answerRoom) row-10-more
     (solves-malformed noTask answerRoom (refused notWellFormed answerRoom) refl refl) refl

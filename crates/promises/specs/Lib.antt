@@ -1,5 +1,4 @@
 -- What the promises are stated over, beside the contracts of the calls.
-pub mod Ascii
 pub mod Certificates
 pub mod Determined
 pub mod Sheet

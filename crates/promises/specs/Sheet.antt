@@ -20,7 +20,7 @@ use Rattle.table.specs.declared.Task.{Task}
 use Rattle.taskfile.proofs.BenchRows.{listingFile, listingTask, strayStep}
 use Rattle.taskfile.specs.Reading.{ReadsFile, refusedRead, acceptedRead}
 use Rattle.taskfile.specs.declared.TaskRead.{TaskRead}
-use Rattle.promises.specs.Ascii.{bytesOf}
+use Rattle.listing.specs.Ascii.{bytesOf}
 use Rattle.promises.specs.Determined.{Only}
 
 infixr 20 _and_

@@ -4,6 +4,6 @@ use Prim.Native.Char.{code}
 use Prim.Native.Nat.{ℕ}
 use Prim.Native.String.{String, [], _∷_}
 
-unfoldable pub bytesOf : String → List ℕ
+abbrev pub bytesOf : String → List ℕ
 bytesOf [] = []ᴸ
 bytesOf (c ∷ s) = code c ∷ᴸ bytesOf s
