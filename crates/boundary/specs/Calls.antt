@@ -7,6 +7,7 @@ use Rattle.change.specs.declared.Applied.{Applied}
 use Rattle.listing.specs.Listing.{ListsInto}
 use Rattle.runcheck.specs.OpenNeeds.{checked}
 use Rattle.session.specs.Calls.{Opens, Edits, listed}
+use Rattle.session.specs.Replays.{editOf}
 use Rattle.session.specs.declared.Edited.{Edited}
 use Rattle.solve.specs.Solving.{Outcome, Solves}
 use Rattle.table.specs.declared.Reply.{Reply}
@@ -14,7 +15,7 @@ use Rattle.taskfile.specs.Reading.{ReadsFile}
 use Rattle.taskfile.specs.Records.{recordAt}
 use Rattle.taskfile.specs.declared.TaskRead.{TaskRead}
 use Rattle.taskwriter.specs.Writing.{written}
-use Rattle.boundary.specs.Words.{taskIn, editIn}
+use Rattle.boundary.specs.Words.{taskIn}
 use Rattle.boundary.specs.Answers.{Answers, replyLength, checkedLength, recordLength, answerMost, replyWords, checkedWords, recordWords, taskAnswer}
 
 -- Nothing but the room for the answer is lent to be written.
@@ -55,7 +56,7 @@ unfoldable pub EditsSession : List ℕ → ℕ → ℕ → ℕ → ℕ → List 
 EditsSession ws kind action fact present table after =
     Answers answerMost (after ≡ table)
     (λ words.
-    (y : Edited) × Edits (taskIn ws) table (editIn kind action fact present) y after ×
+    (y : Edited) × Edits (taskIn ws) table (editOf kind action fact present) y after ×
     (words ≡ taskAnswer (y .number) (y .place) (y .task)))
 
 unfoldable pub ListsSession : List ℕ → List ℕ → List ℕ → List ℕ → List ℕ → List ℕ → ℕ → Type 0

@@ -4,8 +4,6 @@ use mathlib.Core.List.{List, [], _∷_, _++_, map}
 use Prim.Native.Nat.{ℕ, _+_, _*_}
 use lib.Dec.{eqb, ltb}
 use lib.ListN.{length, getD, take, drop}
-use Rattle.change.specs.declared.Edit.{Edit}
-use Rattle.session.specs.Replays.{cellOf, setPresent}
 use Rattle.table.specs.Sizes.{maxActions, maxSteps}
 use Rattle.table.specs.declared.Run.{Run}
 use Rattle.table.specs.declared.Table.{Table}
@@ -67,8 +65,3 @@ runOut r = (r .start ∷ r .goal ∷ r .count ∷ []) ++ r .steps
 
 unfoldable pub taskOut : Task → List ℕ
 taskOut t = tableOut (t .table) ++ runOut (t .run)
-
--- The edit of four numbers: the kind of cell, the action, the fact, and 1 for present. An unknown kind names a fact that
--- no task has, so that it is refused with 14.
-unfoldable pub editIn : ℕ → ℕ → ℕ → ℕ → Edit
-editIn kind action fact present = record { cell = cellOf kind action fact; present = eqb present setPresent }

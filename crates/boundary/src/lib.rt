@@ -2,7 +2,6 @@
 // (docs/BOUNDARY.md). A task crosses as 166 words, an answer as words in lent room; where that room is too short the
 // call answers 11 and touches nothing.
 mod answer;
-mod edits;
 mod words;
 
 use answer::CHECKED_WORDS;
@@ -14,12 +13,12 @@ use answer::give_record;
 use answer::give_reply;
 use answer::give_task;
 use change::apply::apply;
-use edits::edit_in;
 use listing::listing;
 use runcheck::check_run;
 use session::edit;
 use session::list;
 use session::open;
+use session::replay::edit_of;
 use solve::solve;
 use table::refusals::ROOM_TOO_SHORT;
 use taskfile::read;
@@ -141,7 +140,7 @@ pub extern "C" fn zp_edit(
         return ROOM_TOO_SHORT;
     }
     let t = task_in(task);
-    let e = edit_in(kind, action, fact, present);
+    let e = edit_of(kind, action, fact, present);
     let done = edit(t, table, e);
     let edited = done.task;
     give_task(done.number, done.place, edited, answer)

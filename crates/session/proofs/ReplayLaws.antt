@@ -13,13 +13,13 @@ use Rattle.change.specs.declared.Edit.{Edit}
 use Rattle.table.specs.Refusals.{accepted}
 use Rattle.table.specs.declared.Task.{Task}
 use Rattle.session.specs.Calls.{Edits, Story, told-all, then}
-use Rattle.session.specs.Replays.{editPlaces, cellOf, editAt, editsIn}
+use Rattle.session.specs.Replays.{editPlaces, editAt, editsIn}
 use Rattle.session.specs.declared.Edited.{Edited}
 
 -- ---- the edits of a list
 
 edits-first : (l : List ℕ) → editPlaces ≤ length l → editsIn l ≡ editAt l 0 ∷ editsIn (drop editPlaces l)
-unfolding editsIn editAt
+unfolding editsIn
 edits-first [] h = absurd (omega arith)
 edits-first (k ∷ []) h = absurd (omega arith)
 edits-first (k ∷ a ∷ []) h = absurd (omega arith)
@@ -35,7 +35,6 @@ edits-none (k ∷ a ∷ f ∷ []) h = refl
 edits-none (k ∷ a ∷ f ∷ p ∷ l) h = absurd (omega arith)
 
 edit-later : (l : List ℕ) (at : ℕ) → editAt (drop at l) 0 ≡ editAt l at
-unfolding editAt
 edit-later l at = rw (getD-drop at l 0 0, getD-drop at l 1 0, getD-drop at l 2 0, getD-drop at l 3 0, add-zero at)
 
 -- the edits from the i-th on

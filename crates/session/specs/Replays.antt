@@ -46,12 +46,13 @@ cellOf k a f =
     (cond {A = Cell} (eqb k deleteCell) (Delete a f)
     (cond {A = Cell} (eqb k startCell) (Start f) (cond {A = Cell} (eqb k goalCell) (Goal f) (Start maxFacts)))))
 
+-- The edit of four numbers: a list of edits and the boundary both give an edit so.
+unfoldable pub editOf : ℕ → ℕ → ℕ → ℕ → Edit
+editOf kind action fact present = record { cell = cellOf kind action fact; present = eqb present setPresent }
+
 -- The edit whose numbers stand from place `at` on.
-unfoldable pub editAt : List ℕ → ℕ → Edit
-editAt l at = record {
-  cell = cellOf (getD l at 0) (getD l (at + 1) 0) (getD l (at + 2) 0);
-  present = eqb (getD l (at + 3) 0) setPresent;
-}
+abbrev pub editAt : List ℕ → ℕ → Edit
+editAt l at = editOf (getD l at 0) (getD l (at + 1) 0) (getD l (at + 2) 0) (getD l (at + 3) 0)
 
 -- The edits of a list, four numbers each; at its end one to three numbers that make no edit are left out.
 unfoldable pub editsIn : List ℕ → List Edit
@@ -59,7 +60,7 @@ editsIn [] = []
 editsIn (k ∷ []) = []
 editsIn (k ∷ a ∷ []) = []
 editsIn (k ∷ a ∷ f ∷ []) = []
-editsIn (k ∷ a ∷ f ∷ p ∷ l) = record { cell = cellOf k a f; present = eqb p setPresent } ∷ editsIn l
+editsIn (k ∷ a ∷ f ∷ p ∷ l) = editOf k a f p ∷ editsIn l
 
 -- Opening, the edits one after another, listing. Where opening is refused, that refusal, and nothing is written. Else what a fresh solve of
 -- the task that the accepted edits make gives, in number, place, length and room; and every row is that task's.

@@ -10,7 +10,7 @@ ghost use mathlib.Core.Path.{_≡_};
 ghost use Prim.Native.Nat.{_+_, _≤_};
 ghost use lib.ListN.{length};
 ghost use Rattle.session.specs.Calls.{Story};
-ghost use Rattle.session.specs.Replays.{cellOf, editAt, editsIn, editPlaces, WholeSession};
+ghost use Rattle.session.specs.Replays.{cellOf, editOf, editAt, editsIn, editPlaces, WholeSession};
 
 // The kinds of cell by their numbers, how many numbers an edit has, and the one that sets a cell to present.
 pub const NEED: usize = 0;
@@ -25,7 +25,7 @@ pub const GOAL: usize = 4;
 
 pub const EDIT_PLACES: usize = 4;
 
-pub const PRESENT: u16 = 1;
+pub const PRESENT: usize = 1;
 
 // A number that is no kind names a fact that no task has.
 fn cell_of(kind: usize, action: usize, fact: usize) -> Cell
@@ -46,6 +46,17 @@ fn cell_of(kind: usize, action: usize, fact: usize) -> Cell
     }
 }
 
+// The edit of four numbers, for every caller who gives an edit as numbers.
+pub fn edit_of(kind: usize, action: usize, fact: usize, present: usize) -> Edit
+    ensures { λ r. ⌜ r ≡ editOf kind action fact present ⌝ }
+{
+    let cell = cell_of(kind, action, fact);
+    Edit {
+        cell,
+        present: present == PRESENT,
+    }
+}
+
 fn edit_at(edits: &[u16], at: usize) -> Edit
     requires { ⌜ at + editPlaces ≤ length (now edits) ⌝ }
     ensures { λ r. ⌜ r ≡ editAt (now (edits .entry)) at ⌝ }
@@ -53,9 +64,8 @@ fn edit_at(edits: &[u16], at: usize) -> Edit
     let kind = edits[at] as usize;
     let action = edits[at + 1] as usize;
     let fact = edits[at + 2] as usize;
-    let cell = cell_of(kind, action, fact);
-    let present = edits[at + 3] == PRESENT;
-    Edit { cell, present }
+    let present = edits[at + 3] as usize;
+    edit_of(kind, action, fact, present)
 }
 
 // Makes the edits one after another, accepted or refused, and gives the task that they make.

@@ -15,8 +15,8 @@ returns c = answers-short (omega arith) refl
 task-in-requires : tie.Need-task-in-requires
 task-in-requires c κs = search needs
 
-edit-in-requires : tie.Need-edit-in-requires
-edit-in-requires c κs = search needs
+edit-of-requires : tie.Need-edit-of-requires
+edit-of-requires c κs = search needs
 
 edit-requires : tie.Need-edit-requires
 edit-requires c κs = search needs
@@ -39,7 +39,7 @@ returns-2 c =
     let done = z .edit .result in
     answers-given (taskAnswer (done .number) (done .place) (done .task))
     (omega (arith, e .before .before .if1 .left))
-    (done, rw (e .before .task-in .ensures, e .edit-in .ensures) at (z .edit .ensures), refl)
+    (done, rw (e .before .task-in .ensures, e .edit-of .ensures) at (z .edit .ensures), refl)
     (y .give-task .ensures)
 
 pub zp-edit-spec : {M : Type 1} → statement M
@@ -48,7 +48,7 @@ zp-edit-spec =
     (tie.spec
     returns
     task-in-requires
-    edit-in-requires
+    edit-of-requires
     edit-requires
     give-task-requires
     same-length

@@ -2,7 +2,6 @@
 use Prim.Native.Nat.{_+_}
 use borrow.Author.Needs.{needs}
 use native.Mathlib.Omega.{arith}
-use Rattle.session.specs.Replays.{editAt}
 use Rattle.session.proofs.replay.edit_at.Statement.{statement}
 use Rattle.session.proofs.replay.edit_at.Tie as tie
 
@@ -39,9 +38,6 @@ shared-slice-read-fact c = search needs
 cast-fact : tie.Need-cast-fact
 cast-fact c = omega (arith, c .shared-slice-known4 .given (c .before .before .before .before .args .at + 2))
 
-cell-of-requires : tie.Need-cell-of-requires
-cell-of-requires c κs = search needs
-
 add-present : tie.Need-add-present
 add-present c = search needs
 
@@ -51,9 +47,14 @@ mul-present c = search needs
 shared-slice-read-present : tie.Need-shared-slice-read-present
 shared-slice-read-present c = search needs
 
+cast-present : tie.Need-cast-present
+cast-present c = omega (arith, c .shared-slice-known5 .given (c .before .before .before .before .before .args .at + 3))
+
+edit-of-requires : tie.Need-edit-of-requires
+edit-of-requires c κs = search needs
+
 returns : tie.Need-returns
-unfolding editAt
-returns c = rw (c .before .cell-of .ensures)
+returns c = c .edit-of .ensures
 
 pub edit-at-spec : {M : Type 1} → statement M
 edit-at-spec =
@@ -70,8 +71,9 @@ edit-at-spec =
     mul-fact
     shared-slice-read-fact
     cast-fact
-    cell-of-requires
     add-present
     mul-present
     shared-slice-read-present
+    cast-present
+    edit-of-requires
     returns)
