@@ -24,22 +24,27 @@ module _ {n : ℕ} {Untouched : Type 0} {Told : List ℕ → Type 0} where
         (words, g .size, told, g .number, rw (g .size) at (placed-whole (record { next-is = refl; room-is = g .room-is }) fits));
   }
 
--- Where what is told is determined, so are the number returned and every word of the room.
+-- Where what is kept and what is told are each met in one way only, so is all that a call gives: the number returned,
+-- every word of the answer's room, and what else was lent (which `Kept` and `Told` are about).
 module _
-    {n : ℕ} {Kept Kept′ : Type 0} {Told Told′ : List ℕ → Type 0} {before after after′ : List ℕ} {r r′ : ℕ}
-    (one : (u v : List ℕ) → Told u → Told′ v → u ≡ v)
-    (p : Answers n Kept Told before after r)
-    (q : Answers n Kept′ Told′ before after′ r′) where
-  one-by-length : (b : Bool) → ltb (length before) n ≡ b → (r ≡ r′) × (after ≡ after′)
+    {Lent : Type 0} (n : ℕ) (Kept : Lent → Type 0) (Told : Lent → List ℕ → Type 0) (before : List ℕ)
+    (kept : (l m : Lent) → Kept l → Kept m → l ≡ m)
+    (told : (l m : Lent) (u v : List ℕ) → Told l u → Told m v → (l ≡ m) × (u ≡ v))
+    (l m : Lent) (after other : List ℕ) (r q : ℕ)
+    (a : Answers n (Kept l) (Told l) before after r)
+    (b : Answers n (Kept m) (Told m) before other q) where
+  one-by-length : (short : Bool) → ltb (length before) n ≡ short → (r ≡ q) × (after ≡ other) × (l ≡ m)
   one-by-length true e =
       let less : length before < n = ltb-true (length before) n e in
-      (p .short less .0 ∙ sym (q .short less .0), p .short less .1 ∙ sym (q .short less .1))
+      let x = a .short less in
+      let y = b .short less in
+      (x .0 ∙ sym (y .0), x .1 ∙ sym (y .1), kept l m (x .2) (y .2))
   one-by-length false e =
       let enough : n ≤ length before = ltb-false (length before) n e in
-      let g = p .given enough in
-      let k = q .given enough in
-      let same = one (g .0) (k .0) (g .2) (k .2) in
-      (g .3 ∙ ap (λ w. getD w 0 0) same ∙ sym (k .3), g .4 ∙ ap (λ w. w ++ drop n before) same ∙ sym (k .4))
+      let x = a .given enough in
+      let y = b .given enough in
+      let same = told l m (x .0) (y .0) (x .2) (y .2) in
+      (x .3 ∙ ap (λ w. getD w 0 0) (same .1) ∙ sym (y .3), x .4 ∙ ap (λ w. w ++ drop n before) (same .1) ∙ sym (y .4), same .0)
 
-  pub answers-one : (r ≡ r′) × (after ≡ after′)
+  pub answers-one : (r ≡ q) × (after ≡ other) × (l ≡ m)
   answers-one = one-by-length (ltb (length before) n) refl

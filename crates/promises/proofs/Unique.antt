@@ -1,5 +1,7 @@
 -- "Two results that both satisfy it are shown equal" (document 01, "How tight the contracts are"): for each public call, and each input,
--- the contract determines number, place, value and the final content of what was lent. There is no exception. Assumes nothing.
+-- the contract determines number, place, value and the final content of what was lent. Here the calls of the library; UniqueBoundary has
+-- the record reader's and the boundary's. The one exception: of a body handed out the bytes are determined, not the address where they
+-- stand. Assumes nothing.
 use mathlib.Core.Bool.{Bool, true, false}
 use mathlib.Core.List.{List}
 use mathlib.Core.Path.{_≡_, refl, sym, _∙_}
@@ -15,7 +17,7 @@ use Rattle.runcheck.specs.OpenNeeds.{checked}
 use Rattle.runcheck.specs.declared.Checked.{Checked}
 use Rattle.session.proofs.CallLaws.{opens-unique, edits-unique, story-unique}
 use Rattle.session.specs.Calls.{Opens, Edits, listed, Story, openRefusal, madeBy}
-use Rattle.session.specs.Replays.{editsIn, WholeSession}
+use Rattle.session.specs.Replays.{editOf, editsIn, WholeSession}
 use Rattle.session.specs.declared.Edited.{Edited}
 use Rattle.solve.proofs.RowLaws.{stored-unique}
 use Rattle.solve.proofs.SolveLaws.{solve-unique}
@@ -31,7 +33,7 @@ use Rattle.taskwriter.specs.Writing.{written}
 use Rattle.promises.specs.Determined.{Determined}
 
 -- Where the contract is an equation.
-equation : {A : Type 0} (x : A) → Determined (λ (r : A). r ≡ x)
+pub equation : {A : Type 0} (x : A) → Determined (λ (r : A). r ≡ x)
 equation x r q e d = e ∙ sym d
 
 -- A reply and the numbers lent, of two calls.
@@ -80,6 +82,10 @@ list-unique t s room = equation (listed t s room)
 -- listing: the reply, and the room afterwards
 pub listing-determined : (input room : List ℕ) → Determined (ListsInto input room)
 listing-determined input room r q a b = listing-unique a b
+
+-- edit_of: the edit of four numbers
+pub edit-of-unique : (kind action fact present : ℕ) → Determined (λ (e : Edit). e ≡ editOf kind action fact present)
+edit-of-unique kind action fact present = equation (editOf kind action fact present)
 
 -- replay: the task, and the table afterwards. whole_session: the reply, the room and the table afterwards.
 pub replay-unique : (t : Task) (s : List ℕ) (es : List Edit) → Determined (λ (o : Task × List ℕ). Story t s es (o .0) (o .1))
