@@ -3,9 +3,8 @@ use mathlib.Core.Bool.{Bool, true, false, cond, not, _&&_, _||_, false≢true, o
 use mathlib.Core.List.{List, [], _∷_, _++_}
 use mathlib.Core.Logic.{_⊎_, inl, inr}
 use mathlib.Core.Path.{_≡_, refl, sym, ap, ap₂, _∙_, subst}
-use Prim.Native.Nat.{ℕ, zero, suc, _+_, _*_, _/_, _%_, _<_, _≤_}
+use Prim.Native.Nat.{ℕ, zero, suc, _+_, _/_, _%_, _<_, _≤_}
 use native.Mathlib.Decide.{decLt}
-use native.Mathlib.Numerals.{add-one}
 use native.Mathlib.Omega.{arith}
 use borrow.Author.Tests.{eqb-true, eq-eqb, eqb-false, ne-eqb, ltb-true, ltb-false}
 use lib.Dec.{eqb, ltb}
@@ -15,12 +14,12 @@ use Rattle.facts.proofs.Laws.{has-empty, has-joined, has-only}
 use Rattle.table.specs.Lists.{gather, piece}
 use Rattle.table.specs.Order.{isIn, AscendingFrom, Ascending, NotAfter, _≼_}
 use Rattle.table.specs.Repairs.{byKind, factOf}
-use Rattle.table.specs.Sizes.{perFact, perKind, kinds}
+use Rattle.table.specs.Sizes.{perFact, kinds}
 use Rattle.table.proofs.FlagLaws.{or-cases, or-left, or-right, and-left, and-right, and-both, same-flag, is-false}
 use Rattle.table.proofs.OrderLaws
 use Rattle.search.specs.declared.Choice.{Choice}
 use Rattle.search.specs.Choices.{codeKind, codeAction, codeNumber, nothing, inChoice, numbersIn, listOf, Contains}
-use Rattle.search.specs.Trying.{withMask, maskIn, withRepair, FirstDifference, Earlier}
+use Rattle.search.specs.Trying.{withMask, maskIn, withRepair, bothOf, FirstDifference, Earlier}
 
 -- ---- the list of a set of codes
 
@@ -261,6 +260,21 @@ with-cases s code c hcode hc t = pick (or-cases (eqb c code) (inChoice s c) (sym
     pick : (eqb c code ≡ true) ⊎ (inChoice s c ≡ true) → (c ≡ code) ⊎ (inChoice s c ≡ true)
     pick (inl e) = inl (eqb-true c code e)
     pick (inr h) = inr h
+
+-- The codes of two sets as one: those of either.
+pub in-both : (a b : Choice) (code : ℕ) → inChoice (bothOf a b) code ≡ (inChoice a code || inChoice b code)
+unfolding inChoice bothOf
+in-both a b code = pick (eqb (codeKind code) 0) (eqb (codeKind code) 1)
+  where
+    x : ℕ
+    x = codeAction code
+
+    pick : (d e : Bool)
+        → has (cond d (joined (a .deletes) (b .deletes)) (cond e (joined (a .adds) (b .adds)) (joined (a .needs) (b .needs)))) x
+        ≡ (has (cond d (a .deletes) (cond e (a .adds) (a .needs))) x || has (cond d (b .deletes) (cond e (b .adds) (b .needs))) x)
+    pick true e = has-joined (a .deletes) (b .deletes) x
+    pick false true = has-joined (a .adds) (b .adds) x
+    pick false false = has-joined (a .needs) (b .needs) x
 
 -- A repair that was not in the set makes its list one longer.
 pub with-length : (f : ℕ) (s : Choice) (code : ℕ) → code < perFact → inChoice s code ≡ false

@@ -300,7 +300,7 @@ module _ (col : Column) (s : Choice) (j i : ℕ) (formed : ColumnFormed col) (mi
       pick (inr none) = absurd (not-right R none right (missing .needed))
 
   is-conflict : Conflicts col s q
-  is-conflict = record { meets = λ R right _. conflict-meets R right; fresh = conflict-fresh; allowed = conflict-allowed }
+  is-conflict = record { meets = conflict-meets; fresh = conflict-fresh; allowed = conflict-allowed }
 
 -- The sets that the code gathers make a conflict.
 module _ (col : Column) (s : Choice) (j i place end d a n : ℕ) (formed : ColumnFormed col) (missing : Missing col s j)

@@ -2,6 +2,7 @@
 pub mod ChoiceLaws
 pub mod ColumnLaws
 pub mod ViewLaws
+pub mod BoundLaws
 pub mod ConflictLaws
 pub mod MaskLaws
 pub mod SearchLaws

@@ -3,21 +3,20 @@ use mathlib.Core.Bool.{Bool, true, false, false≢true}
 use mathlib.Core.List.{List}
 use mathlib.Core.Logic.{_⊎_, inl, inr}
 use mathlib.Core.Path.{_≡_, refl, sym, ap, _∙_, subst, fun-ext}
-use Prim.Native.Nat.{ℕ, suc, _+_, _*_, _-_, _/_, _%_, _<_, _≤_}
+use Prim.Native.Nat.{ℕ, _+_, _-_, _%_, _<_, _≤_}
 use native.Mathlib.Decide.{decLt}
 use native.Mathlib.Omega.{arith}
 use lib.ListN.{length}
-use Rattle.table.specs.Answer.{Permitted, Keeps, First}
+use Rattle.table.specs.Answer.{Permitted, First}
 use Rattle.table.specs.Order.{isIn, _≼_}
-use Rattle.table.specs.Repairs.{permitted, repaired, factOf}
+use Rattle.table.specs.Repairs.{permitted, repaired}
 use Rattle.table.specs.Sizes.{maxRow, perFact}
 use Rattle.table.specs.Strips.{Right, stateAt}
-use Rattle.table.proofs.FlagLaws.{is-false}
-use Rattle.table.proofs.OrderLaws.{≼-trans, ≼-length, subset-first, same-members}
+use Rattle.table.proofs.OrderLaws.{≼-trans, ≼-length, subset-first}
 use Rattle.search.specs.declared.Column.{Column}
 use Rattle.search.specs.declared.Choice.{Choice}
 use Rattle.search.specs.declared.Found.{Found}
-use Rattle.search.specs.Choices.{nothing, inChoice, numbersIn, listOf, codeNumber, Contains}
+use Rattle.search.specs.Choices.{nothing, inChoice, listOf, codeNumber, Contains}
 use Rattle.search.specs.Columns.{cellsIn, courseIn, KeepsIn}
 use Rattle.search.specs.Searching.{cellsWith, NeededAt, Missing, Allowed, Conflicts, Among, Chosen, Shortest}
 use Rattle.search.specs.Gaps.{Gap}
@@ -84,7 +83,7 @@ module _ (col : Column) (s : Choice) where
   }
 
   -- A list that keeps the fact right, contains the candidate and is no longer has no repair beside the candidate's.
-  no-more : (l : List ℕ) → KeepsIn col l → Contains (isIn l) (col .fact) s → length l ≤ length (listOf (col .fact) s)
+  pub no-more : (l : List ℕ) → KeepsIn col l → Contains (isIn l) (col .fact) s → length l ≤ length (listOf (col .fact) s)
       → (n : ℕ) → isIn l n ≡ true → isIn (listOf (col .fact) s) n ≡ true
   no-more l keeps part short n h = pick (inChoice s (n % perFact)) refl
     where
@@ -106,21 +105,6 @@ module _ (col : Column) (s : Choice) where
             ≼-length (listOf (col .fact) (withRepair s (n % perFact))) l longer,
             with-length (col .fact) s (n % perFact) (omega arith) t,
           ))
-
-  -- A gap, and no repair left: no list is short enough.
-  pub none-left : (j : ℕ) → Missing col s j → (l : List ℕ) → Among col s (length (listOf (col .fact) s) + 0) l → ⊥
-  none-left j missing l a = missing-wrong col s j missing right
-    where
-      same : l ≡ listOf (col .fact) s
-      same =
-          same-members 0 0 l (listOf (col .fact) s) (a .keeps .permitted .ascending) (listOf-ascending (col .fact) s)
-          (no-more l (a .keeps) (a .contains) (omega (arith, a .short)))
-          (contains-list (col .fact) s (isIn l) (a .contains))
-
-      right : Right (cellsWith col s) (courseIn col) (col .fact)
-      right =
-          subst (λ c. Right c (courseIn col) (col .fact))
-          (ap (λ w. repaired (cellsIn col) (isIn w)) same ∙ list-applied col s) (a .keeps .right)
 
 -- What a gap's place says.
 pub gap-right : (col : Column) (s : Choice) (j : ℕ) → Gap col s j → col .count < j → Right (cellsWith col s) (courseIn col) (col .fact)
@@ -278,7 +262,7 @@ module _ (col : Column) (s : Choice) (k : ℕ) where
     where
       back : (l : List ℕ) → Among col s k l → AmongTried col s k T l
       back l a =
-          let m = conflict .meets (isIn l) (a .keeps .right) (a .contains) in
+          let m = conflict .meets (isIn l) (a .keeps .right) in
           record { among = a; code = m .0; below = m .1; tried = all (m .0) (m .1) (m .2); present = m .3 }
 
 -- ---- a branch's loop over the codes of a conflict

@@ -2,16 +2,15 @@
 use mathlib.Core.Bool.{Bool, true, false}
 use mathlib.Core.List.{List}
 use mathlib.Core.Path.{_≡_}
-use Prim.Native.Nat.{ℕ, suc, _<_, _≤_}
+use Prim.Native.Nat.{ℕ, _+_, _<_, _≤_}
 use lib.ListN.{length}
 use Rattle.table.specs.Answer.{First}
-use Rattle.table.specs.Order.{isIn, _≼_}
+use Rattle.table.specs.Order.{isIn}
 use Rattle.table.specs.Repairs.{permitted, repaired}
 use Rattle.table.specs.Sizes.{maxRow, perFact}
 use Rattle.table.specs.Strips.{Cells, Right, stateAt}
 use Rattle.search.specs.declared.Column.{Column}
 use Rattle.search.specs.declared.Choice.{Choice}
-use Rattle.search.specs.declared.Found.{Found}
 use Rattle.search.specs.Choices.{inChoice, numbersIn, listOf, codeNumber, Contains}
 use Rattle.search.specs.Columns.{cellsIn, courseIn, KeepsIn}
 
@@ -33,10 +32,10 @@ pub record Missing (col : Column) (s : Choice) (j : ℕ) : Type 0 where
 abbrev pub Allowed : Column → Choice → Type 0
 Allowed col s = (code : ℕ) → code < perFact → inChoice s code ≡ true → permitted (cellsIn col) (codeNumber (col .fact) code) ≡ true
 
--- q is a conflict of the candidate s: every set of repairs that contains s and keeps the fact right has one of q's,
--- none of q's is in s, and each is permitted.
+-- q is a conflict of the candidate s: every set of repairs that keeps the fact right has one of q's (whether or not it
+-- contains s), none of q's is in s, and each is permitted.
 pub record Conflicts (col : Column) (s : Choice) (q : Choice) : Type 0 where
-  pub meets : (R : ℕ → Bool) → Right (repaired (cellsIn col) R) (courseIn col) (col .fact) → Contains R (col .fact) s →
+  pub meets : (R : ℕ → Bool) → Right (repaired (cellsIn col) R) (courseIn col) (col .fact) →
       (code : ℕ) × (code < perFact) × (inChoice q code ≡ true) × (R (codeNumber (col .fact) code) ≡ true)
   pub fresh : (code : ℕ) → code < perFact → inChoice q code ≡ true → inChoice s code ≡ false
   pub allowed : Allowed col q
@@ -47,6 +46,10 @@ pub record Among (col : Column) (s : Choice) (k : ℕ) (l : List ℕ) : Type 0 w
   pub keeps : KeepsIn col l
   pub contains : Contains (isIn l) (col .fact) s
   pub short : length l ≤ k
+
+-- Every list that keeps the fact right and contains the candidate has more than `left` repairs beside the candidate's.
+abbrev pub CostsMore : Column → Choice → ℕ → Type 0
+CostsMore col s left = (l : List ℕ) → Among col s (length (listOf (col .fact) s) + left) l → ⊥
 
 -- What `test` and `branch` give: the first of the shortest of them, or nothing exactly if there is none.
 abbrev pub Chosen : Column → Choice → ℕ → Bool → Choice → Type 0

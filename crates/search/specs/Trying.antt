@@ -1,4 +1,5 @@
--- What the search does with sets of repairs: one repair more, which of two sets comes first, the better of two finds.
+-- What the search does with sets of repairs: one repair more, two sets as one, which of two sets comes first, the better
+-- of two finds.
 use mathlib.Core.Bool.{Bool, true, false}
 use mathlib.Core.Path.{_≡_}
 use Prim.Native.Nat.{ℕ, _<_, _≤_}
@@ -23,6 +24,14 @@ maskIn k s = byKind k (s .deletes) (s .adds) (s .needs)
 -- "with one repair more": the set with the repair of this code too.
 unfoldable pub withRepair : Choice → ℕ → Choice
 withRepair s code = withMask (codeKind code) (joined (maskIn (codeKind code) s) (only (codeAction code))) s
+
+-- The repairs that are in one of the sets or in both.
+unfoldable pub bothOf : Choice → Choice → Choice
+bothOf a b = record {
+  deletes = joined (a .deletes) (b .deletes);
+  adds = joined (a .adds) (b .adds);
+  needs = joined (a .needs) (b .needs);
+}
 
 -- The first action from `skip` on that is in the set, or a number outside where none is.
 pub record NextAction (m skip next : ℕ) : Type 0 where

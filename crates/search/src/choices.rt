@@ -1,4 +1,4 @@
-// Sets of repairs of one fact: what is in one, one repair more, and which of two comes first.
+// Sets of repairs of one fact: what is in one, one repair more, two as one, and which of two comes first.
 use crate::Choice;
 use crate::Found;
 use facts::below_mask;
@@ -17,7 +17,7 @@ ghost use lib.ListN.{length};
 ghost use Rattle.search.specs.Choices.{inChoice, listOf};
 ghost use Rattle.search.specs.Choices as choices;
 ghost use Rattle.facts.specs.Sets.{sumBits};
-ghost use Rattle.search.specs.Trying.{withRepair, NextAction, NextIn, FirstUnshared, FirstDifference, Earlier, Better};
+ghost use Rattle.search.specs.Trying.{withRepair, bothOf, NextAction, NextIn, FirstUnshared, FirstDifference, Earlier, Better};
 
 pub fn nothing() -> Choice
     ensures { λ r. ⌜ r ≡ choices.nothing ⌝ }
@@ -70,6 +70,17 @@ pub fn with_repair(s: Choice, code: usize) -> Choice
         deletes,
         adds,
         needs: with_fact(needs, action),
+    }
+}
+
+// The repairs that are in one of the sets or in both.
+pub fn joined(a: Choice, b: Choice) -> Choice
+    ensures { λ r. ⌜ r ≡ bothOf a b ⌝ }
+{
+    Choice {
+        deletes: join(a.deletes, b.deletes),
+        adds: join(a.adds, b.adds),
+        needs: join(a.needs, b.needs),
     }
 }
 

@@ -1,5 +1,5 @@
-// The conflict of a candidate at a place where its fact is missing: repairs of which every working list that contains
-// the candidate has one (document 01, "A conflict"; source document 000).
+// The conflict of a candidate at a place where its fact is missing: repairs of which every working list has one, those
+// that contain the candidate and all others (document 01, "A conflict"; source document 000).
 use crate::Choice;
 use crate::Column;
 use crate::gap;

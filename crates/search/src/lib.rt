@@ -1,5 +1,6 @@
 // The least repair list of one fact: its row of the session table (document 01, "The session table" and the conflict of
 // "The model and its run").
+pub mod bound;
 pub mod choices;
 pub mod conflict;
 pub mod gap;

@@ -1,8 +1,10 @@
 // The search for one fact's least list: a candidate is tested, and where it fails, each repair of its conflict is tried
-// in turn (document 01: "When a candidate still fails ..").
+// in turn (document 01: "When a candidate still fails .."), unless its conflicts show that no list with it is short
+// enough.
 use crate::Choice;
 use crate::Column;
 use crate::Found;
+use crate::bound;
 use crate::choices;
 use crate::conflict;
 use crate::gap;
@@ -29,6 +31,12 @@ pub fn test(col: Column, s: Choice, left: usize) -> Found
         };
     }
     if left == 0 {
+        return Found {
+            any: false,
+            choice: s,
+        };
+    }
+    if bound::costs_more(col, s, left) {
         return Found {
             any: false,
             choice: s,

@@ -2,7 +2,6 @@
 -- `branch` at the same left, so the measures are 2 left for `branch` and 2 left + 1 for `test`.
 -- The loop's invariant: the best of the lists that have a repair of the conflict below the code.
 use mathlib.Core.Bool.{true}
-use mathlib.Core.List.{List}
 use mathlib.Core.Path.{_≡_, sym, subst}
 use Prim.Native.Nat.{ℕ, _+_, _*_, _-_, _<_, _≤_}
 use native.Mathlib.Nat.{pos-of-ne-zero}
@@ -13,14 +12,16 @@ use borrow.Fn.Kinds.{In}
 use borrow.Fn.PlainCycle.{Measures, is, falls, and}
 use Rattle.table.specs.Sizes.{perFact}
 use Rattle.search.specs.Choices.{inChoice, listOf}
-use Rattle.search.specs.Searching.{Allowed, Among, Chosen}
-use Rattle.search.proofs.SearchLaws.{Tried, loop-first, loop-next, loop-end, allowed-with, candidate-first, none-left, gap-right, gap-missing}
+use Rattle.search.specs.Searching.{Allowed, Chosen}
+use Rattle.search.proofs.BoundLaws.{shared-none, shared-end}
+use Rattle.search.proofs.SearchLaws.{Tried, loop-first, loop-next, loop-end, allowed-with, candidate-first, gap-right, gap-missing}
 use Rattle.search.proofs.search.branch.Reads as branch
 use Rattle.search.proofs.search.branch.Kinds as branch-kinds
 use Rattle.search.proofs.search.+branch+test.Lts-branch as branch-lts
 use Rattle.search.proofs.search.test.Reads as test
 use Rattle.search.proofs.search.test.Kinds as test-kinds
 use Rattle.search.proofs.search.+branch+test.Lts-test as test-lts
+use Rattle.search.proofs.bound.costs_more.Reads as costs-more-reads
 use Rattle.search.proofs.choices.better.Reads as better-reads
 use Rattle.search.proofs.choices.next_in.Reads as next-in-reads
 use Rattle.search.proofs.choices.with_repair.Reads as with-repair-reads
@@ -64,6 +65,8 @@ abbrev T : ℕ → test-lts.Claims
 T t = (
   first-gap-reads.Asked,
   first-gap-reads.Learnt,
+  costs-more-reads.Asked,
+  costs-more-reads.Learnt,
   conflict-reads.Asked,
   conflict-reads.Learnt,
   branch-below t,
@@ -157,24 +160,30 @@ test-returns-2 : (t : ℕ) → test-lts.Need-returns-2 (T t) (test-at t) test.Po
 test-returns-2 t c =
     let a = c .before .before .before .args in
     let gap = c .before .before .first-gap in
-    subst (λ n. (l : List ℕ) → Among (a .col) (a .s) (length (listOf (a .col .fact) (a .s)) + n) l → ⊥) (sym (c .if2 .taken))
-    (none-left (a .col) (a .s) (gap .result) (gap-missing (a .col) (a .s) (gap .result) (gap .ensures) (c .before .if1 .left)))
+    shared-end (a .col) (a .s) (a .s) 0 (a .left) (gap .result) (omega (arith, c .if2 .taken)) (shared-none (a .col) (a .s))
+    (gap-missing (a .col) (a .s) (gap .result) (gap .ensures) (c .before .if1 .left))
+
+test-costs-more-requires : (t : ℕ) → test-lts.Need-costs-more-requires (T t) (test-at t) test.Post
+test-costs-more-requires t c κs = c .before .before .before .pre .1 .0
+
+test-returns-3 : (t : ℕ) → test-lts.Need-returns-3 (T t) (test-at t) test.Post
+test-returns-3 t c = c .before .costs-more .ensures (c .if3 .taken)
 
 test-conflict-requires : (t : ℕ) → test-lts.Need-conflict-requires (T t) (test-at t) test.Post
 test-conflict-requires t c κs =
-    let a = c .before .before .before .args in
-    let gap = c .before .before .first-gap in
-    (c .before .before .before .pre .1 .0, gap-missing (a .col) (a .s) (gap .result) (gap .ensures) (c .before .if1 .left))
+    let a = c .before .before .before .before .before .args in
+    let gap = c .before .before .before .before .first-gap in
+    (c .before .before .before .before .before .pre .1 .0, gap-missing (a .col) (a .s) (gap .result) (gap .ensures) (c .before .before .before .if1 .left))
 
 test-branch-requires : (t : ℕ) → test-lts.Need-branch-requires (T t) (test-at t) test.Post
 test-branch-requires t c κs =
-    let a = c .before .before .before .before .args in
-    let p = c .before .before .before .before .pre in
+    let a = c .before .before .before .before .before .before .args in
+    let p = c .before .before .before .before .before .before .pre in
     let less : 2 * a .left < t = omega (arith, p .0) in
-    (less, (p .1 .0, (p .1 .1, (c .conflict .ensures, pos-of-ne-zero (c .before .if2 .left)))))
+    (less, (p .1 .0, (p .1 .1, (c .conflict .ensures, pos-of-ne-zero (c .before .before .before .if2 .left)))))
 
-test-returns-3 : (t : ℕ) → test-lts.Need-returns-3 (T t) (test-at t) test.Post
-test-returns-3 t c = c .branch .ensures
+test-returns-4 : (t : ℕ) → test-lts.Need-returns-4 (T t) (test-at t) test.Post
+test-returns-4 t c = c .branch .ensures
 
 pub +branch+test-spec : {M : Type 1} → statement M
 +branch+test-spec =
@@ -185,4 +194,4 @@ pub +branch+test-spec : {M : Type 1} → statement M
     (branch-next-in-requires-2 t) (branch-loop-less t) (branch-loop-again t) (branch-returns t))
     (λ t.
     test-lts.spec (T t) (test-at t) test.Post (test-first-gap-requires t) (test-returns t) (test-returns-2 t)
-    (test-conflict-requires t) (test-branch-requires t) (test-returns-3 t))
+    (test-costs-more-requires t) (test-returns-3 t) (test-conflict-requires t) (test-branch-requires t) (test-returns-4 t))
