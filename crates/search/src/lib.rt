@@ -1,12 +1,12 @@
 // The least repair list of one fact: its row of the session table (document 01, "The session table" and the conflict of
 // "The model and its run").
-pub mod bound;
-pub mod choices;
-pub mod conflict;
-pub mod gap;
+mod bound;
+mod choices;
+mod conflict;
+mod gap;
 pub mod row;
-pub mod search;
-pub mod view;
+mod search;
+mod view;
 
 use table::STEPS;
 
