@@ -8,7 +8,7 @@ use borrow.Author.Tests.{ltb-true, ltb-false}
 use lib.Dec.{ltb}
 use lib.ListN.{length, getD, drop}
 use Rattle.table.specs.Refusals.{roomTooShort}
-use Rattle.taskwriter.proofs.PlacingLaws.{placed-whole}
+use Rattle.room.proofs.PlacingLaws.{placed-whole}
 use Rattle.boundary.specs.Answers.{Given, Answers}
 
 module _ {n : ℕ} {Untouched : Type 0} {Told : List ℕ → Type 0} where

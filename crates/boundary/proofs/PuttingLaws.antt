@@ -6,9 +6,9 @@ use native.Mathlib.Numerals.{add-one}
 use native.Mathlib.Omega.{arith}
 use lib.ListN.{length, getD, take}
 use lib.Seq.{take-suc, take-all, length-take-le}
-use Rattle.taskwriter.specs.Placing.{Placed}
+use Rattle.room.specs.Placing.{Placed}
 use Rattle.boundary.specs.Answers.{Given}
-use Rattle.taskwriter.proofs.PlacingLaws.{placed-none, placed-more, placed-length}
+use Rattle.room.proofs.PlacingLaws.{placed-none, placed-more, placed-length}
 
 -- The first i of the n words have been placed from `at` on.
 pub record Putting (words : List ℕ) (n : ℕ) (before room : List ℕ) (at next i : ℕ) : Type 0 where

@@ -8,7 +8,7 @@ use Rattle.table.specs.Refusals.{roomTooShort}
 use Rattle.table.specs.declared.Reply.{Reply}
 use Rattle.table.specs.declared.Task.{Task}
 use Rattle.taskfile.specs.declared.record.Record.{Record}
-use Rattle.taskwriter.specs.Placing.{placed}
+use Rattle.room.specs.Placing.{placed}
 use Rattle.boundary.specs.Words.{taskWords, tableOut, runOut}
 
 -- How many words each kind of answer has; the number and the place are always the first two.

@@ -12,7 +12,7 @@ ghost use mathlib.Core.List.{[], _∷_};
 ghost use mathlib.Core.Path.{_≡_};
 ghost use Prim.Native.Nat.{_+_, _<_, _≤_};
 ghost use Rattle.table.specs.Sizes.{maxActions, maxSteps};
-ghost use Rattle.taskwriter.specs.Placing.{Placed};
+ghost use Rattle.room.specs.Placing.{Placed};
 ghost use Rattle.boundary.specs.Words.{tableOut, runOut, tableWords, runWords};
 ghost use Rattle.boundary.specs.Answers.{answerMost, replyLength, checkedLength, recordLength, Given, checkedWords, recordWords, replyWords, taskAnswer};
 

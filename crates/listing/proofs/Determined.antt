@@ -1,22 +1,19 @@
 -- The listing of an input is one text, which fits in `longestText`; and what is told of it into lent room is one outcome.
 -- Assumes nothing.
-use mathlib.Core.Bool.{Bool, true, false, cond}
 use mathlib.Core.List.{List, [], _∷_}
-use mathlib.Core.Path.{_≡_, refl, sym, ap, _∙_, subst}
+use mathlib.Core.Path.{_≡_, sym, ap, _∙_, subst}
 use Prim.Native.Nat.{ℕ, zero, suc, _≤_, zero-le}
 use native.Mathlib.Omega.{arith}
-use borrow.Author.Tests.{le-ltb, ltb-false}
-use lib.Dec.{ltb}
+use borrow.Author.Tests.{le-ltb}
 use lib.ListN.{length, take}
-use Rattle.table.specs.Refusals.{roomTooShort}
 use Rattle.runcheck.specs.OpenNeeds.{checked}
-use Rattle.solve.specs.Solving.{Outcome, refused, answered, Solves}
+use Rattle.solve.specs.Solving.{Outcome, answered, Solves}
 use Rattle.solve.proofs.SolveLaws.{solve-unique}
 use Rattle.taskfile.specs.declared.TaskRead.{TaskRead}
 use Rattle.taskfile.proofs.Unique.{reads-unique}
 use Rattle.listing.specs.Text.{textOf, longestText}
 use Rattle.listing.specs.Listing.{answerRoom, Lists, given, ListsInto}
-use Rattle.listing.proofs.TextLaws.{solved-fits}
+use Rattle.listing.proofs.TextLaws.{solved-fits, given-within}
 use Rattle.listing.proofs.TextLength.{text-most}
 
 pub text-unique : {input text other : List ℕ} → Lists input text → Lists input other → text ≡ other
@@ -53,10 +50,4 @@ always-listed {input} {room} h a =
 
 -- What is told to have been written lies in the room.
 pub listed-within : {input room : List ℕ} {o : Outcome} → ListsInto input room o → o .reply .length ≤ length room
-unfolding given
-listed-within {input} {room} a = rw (a .outcome) (fits (ltb (length room) (length (a .text))) refl)
-  where
-    fits : (b : Bool) → ltb (length room) (length (a .text)) ≡ b
-        → cond {A = Outcome} b (refused roomTooShort room) (answered (a .text) room) .reply .length ≤ length room
-    fits true e = omega arith
-    fits false e = omega (arith, ltb-false (length room) (length (a .text)) e)
+listed-within {input} {room} a = rw (a .outcome) (given-within (a .text) room)

@@ -6,8 +6,8 @@ use native.Mathlib.Omega.{arith}
 use lib.ListN.{length, length-append}
 use borrow.Author.Tests.{lt-ltb, le-ltb}
 use Rattle.listing.specs.Text.{digitZero, digits}
-use Rattle.taskwriter.specs.Placing.{Placed}
-use Rattle.taskwriter.proofs.PlacingLaws.{placed-none, placed-more}
+use Rattle.room.specs.Placing.{Placed}
+use Rattle.room.proofs.PlacingLaws.{placed-none, placed-more}
 
 digits-none : (n : ℕ) → digits 0 n ≡ []
 unfolding digits

@@ -1,6 +1,5 @@
 -- The laws of the listing.
 pub mod EachLaws
-pub mod Putting
 pub mod DigitLaws
 pub mod LineLaws
 pub mod TextLength

@@ -1,8 +1,8 @@
 -- A line is its word, its fields and a line feed, placed one after another; and how long it can be. Assumes nothing.
 use mathlib.Core.Bool.{Bool, true, false, cond}
 use mathlib.Core.List.{List, [], _∷_, _++_}
-use mathlib.Core.Path.{_≡_, refl, sym, ap, _∙_, subst}
-use Prim.Native.Nat.{ℕ, zero, suc, _+_, _*_, _/_, _%_, _<_, _≤_, zero-le}
+use mathlib.Core.Path.{_≡_, sym, ap, _∙_, subst}
+use Prim.Native.Nat.{ℕ, zero, suc, _+_, _/_, _%_, _<_, _≤_, zero-le}
 use native.Mathlib.Omega.{arith}
 use lib.Dec.{ltb}
 use lib.ListN.{length, length-append}
@@ -11,8 +11,8 @@ use Rattle.table.specs.Repairs.{dropDelete, addEffect, kindOf, actionOf, factOf
 use Rattle.table.specs.declared.repair.Repair.{Repair}
 use Rattle.listing.specs.Text.{mostDigits, digitZero, digits, feed, field, each, line, lineMost, dropDeleteWord, addEffectWord, dropNeedWord, endWord, repairWord, setLine, repairLine, endLine, answerLines}
 use Rattle.listing.proofs.EachLaws.{each-most}
-use Rattle.taskwriter.specs.Placing.{Placed}
-use Rattle.taskwriter.proofs.PlacingLaws.{placed-more}
+use Rattle.room.specs.Placing.{Placed}
+use Rattle.room.proofs.PlacingLaws.{placed-more}
 
 pub line-length : (word numbers : List ℕ) → length (line word numbers) ≡ length word + length (each field numbers) + 1
 unfolding line

@@ -1,8 +1,8 @@
 -- The text by cases, and what is told of it into lent room. Assumes nothing.
 use mathlib.Core.Bool.{Bool, true, false, cond}
-use mathlib.Core.List.{List, _++_}
-use mathlib.Core.Path.{_≡_, refl, sym, ap, _∙_}
-use Prim.Native.Nat.{ℕ, _+_, _≤_, _<_}
+use mathlib.Core.List.{List}
+use mathlib.Core.Path.{_≡_, refl, ap}
+use Prim.Native.Nat.{ℕ, _≤_, _<_}
 use native.Mathlib.Omega.{arith}
 use borrow.Author.Tests.{eq-eqb, ne-eqb, lt-ltb, le-ltb, ltb-false}
 use lib.Dec.{ltb}
@@ -17,10 +17,10 @@ use Rattle.runcheck.specs.declared.Checked.{Checked}
 use Rattle.solve.specs.Solving.{Outcome, refused, answered, told, Solves}
 use Rattle.taskfile.specs.Reading.{ReadsFile}
 use Rattle.taskfile.specs.declared.TaskRead.{TaskRead}
-use Rattle.taskwriter.specs.Placing.{Placed}
-use Rattle.taskwriter.proofs.PlacingLaws.{placed-more, placed-whole}
+use Rattle.room.specs.Placing.{Placed}
+use Rattle.room.proofs.PlacingLaws.{placed-more, placed-whole}
 use Rattle.listing.specs.Text.{refusedLine, firstLines, answerLines, readText, textOf}
-use Rattle.listing.specs.Listing.{answerRoom, Lists, given, ListsInto}
+use Rattle.listing.specs.Listing.{answerRoom, given, ListsInto}
 
 -- ---- the text as it is placed: a refused file, a refused solve, an answer
 
@@ -56,27 +56,29 @@ module _ (text room : List ℕ) where
       let e : next ≡ length text = omega (arith, p .next-is) in
       rw (le-ltb (length room) (length text) h, e, placed-whole p h)
 
--- ---- what solving leaves in its room
+-- ---- what is told to have been written lies in the room
 
-module _ {t : Task} {room : List ℕ} {o : Outcome} (s : Solves t room o) where
-  -- The answer fits the room that it was written into.
-  pub solved-fits : o .reply .length ≤ length room
-  unfolding told
-  solved-fits = pick (formed t) refl
-    where
-      fits : (l : List ℕ) (b : Bool) → ltb (length room) (length l) ≡ b
-          → cond {A = Outcome} b (refused roomTooShort room) (answered l room) .reply .length ≤ length room
-      fits l true e = omega arith
-      fits l false e = omega (arith, ltb-false (length room) (length l) e)
+pub given-within : (text room : List ℕ) → given text room .reply .length ≤ length room
+unfolding given
+given-within text room = fits (ltb (length room) (length text)) refl
+  where
+    fits : (b : Bool) → ltb (length room) (length text) ≡ b
+        → cond {A = Outcome} b (refused roomTooShort room) (answered text room) .reply .length ≤ length room
+    fits true e = omega arith
+    fits false e = omega (arith, ltb-false (length room) (length text) e)
 
-      tells : (v : Verdict) → told v room .reply .length ≤ length room
-      tells (found l) = fits l (ltb (length room) (length l)) refl
-      tells over = omega arith
-      tells hopeless = omega arith
+pub solved-fits : {t : Task} {room : List ℕ} {o : Outcome} → Solves t room o → o .reply .length ≤ length room
+unfolding told given
+solved-fits {t} {room} {o} s = pick (formed t) refl
+  where
+    tells : (v : Verdict) → told v room .reply .length ≤ length room
+    tells (found l) = given-within l room
+    tells over = omega arith
+    tells hopeless = omega arith
 
-      pick : (b : Bool) → formed t ≡ b → o .reply .length ≤ length room
-      pick false h = rw (s .malformed h) (omega arith)
-      pick true h = let v = s .verdict h in rw (v .2) (tells (v .0))
+    pick : (b : Bool) → formed t ≡ b → o .reply .length ≤ length room
+    pick false h = rw (s .malformed h) (omega arith)
+    pick true h = let v = s .verdict h in rw (v .2) (tells (v .0))
 
 -- ---- reading, checking, solving and telling are the listing
 

@@ -1,9 +1,7 @@
 -- How long a listing can be: no longer than `longestText`. Assumes nothing.
 use mathlib.Core.Bool.{Bool, true, false, cond}
 use mathlib.Core.List.{List, [], _∷_, _++_}
-use mathlib.Core.Path.{_≡_, refl, ap, _∙_}
 use Prim.Native.Nat.{ℕ, _+_, _*_, _≤_}
-use native.Mathlib.Nat.{mul-le-mul-left, le-trans}
 use native.Mathlib.Omega.{arith}
 use lib.Dec.{eqb}
 use lib.ListN.{length, take, length-append}
@@ -80,23 +78,3 @@ text-most r c o h = pick (eqb (r .number) accepted) (eqb (o .reply .number) acce
           refused-most (o .reply .number) (o .reply .place),
         )
     pick false b = omega (arith, refused-most (r .number) (r .place))
-
--- ---- what the first two lines ask
-
-pub task-fits : (t : Task) → 0 + length (taskLine t) ≤ longestText
-task-fits t = omega (arith, line-most taskWord (t .table .facts ∷ t .table .actions ∷ t .table .limit ∷ t .run .count ∷ []))
-
-pub open-fits : (t : Task) (c : Checked) (next : ℕ) → next ≡ 0 + length (taskLine t) → next + length (openLine c) ≤ longestText
-open-fits t c next e = omega (arith, first-most t c, length-append (taskLine t) (openLine c))
-
--- ---- what the lines after them ask
-
-pub refusal-fits : (number place : ℕ) → 0 + length (refusedLine number place) ≤ longestText
-refusal-fits number place = omega (arith, refused-most number place)
-
-module _ (t : Task) (c : Checked) (next : ℕ) (e : next ≡ 0 + length (firstLines t c)) where
-  pub then-refusal-fits : (number place : ℕ) → next + length (refusedLine number place) ≤ longestText
-  then-refusal-fits number place = omega (arith, first-most t c, refused-most number place)
-
-  pub then-answer-fits : (list : List ℕ) → length list ≤ maxLimit → next + length (answerLines list) ≤ longestText
-  then-answer-fits list h = omega (arith, first-most t c, answer-most list h)

@@ -1,6 +1,6 @@
 // The listing of an input: its text, written into lent room (document 01, "The listing").
+mod fields;
 mod lines;
-mod room;
 
 use lines::whole;
 use runcheck::Checked;

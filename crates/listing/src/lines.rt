@@ -1,6 +1,6 @@
 // The lines of a listing, one function for each kind of line or group of lines.
-use crate::room::put_line;
-use crate::room::put_word;
+use crate::fields::put_line;
+use room::put_word;
 use runcheck::Checked;
 use table::Reply;
 use table::Task;
@@ -10,11 +10,11 @@ use taskfile::TaskRead;
 ghost use Prim.Native.Nat.{_+_, _≤_};
 ghost use lib.ListN.{length};
 ghost use Rattle.table.specs.Sizes.{maxLimit};
-ghost use Rattle.listing.specs.Text.{longestText, each, refusedLine, firstLines, repairLine, answerLines, textOf};
-ghost use Rattle.taskwriter.specs.Placing.{Placed};
+ghost use Rattle.listing.specs.Text.{each, refusedLine, firstLines, repairLine, answerLines, textOf};
+ghost use Rattle.room.specs.Placing.{lastPlace, Placed};
 
 fn refused_line(room: &mut [u8], at: usize, number: usize, place: usize) -> usize
-    requires { ⌜ at + length (refusedLine number place) ≤ longestText ⌝ }
+    requires { ⌜ at + length (refusedLine number place) ≤ lastPlace ⌝ }
     ensures { λ r. ⌜ Placed (now (room .entry)) (now (room .exit)) at r (refusedLine number place) ⌝ }
 {
     let numbers = [number, place];
@@ -33,7 +33,7 @@ fn first_lines(room: &mut [u8], task: Task, found: Checked) -> usize
 }
 
 fn repair_line(room: &mut [u8], at: usize, number: usize) -> usize
-    requires { ⌜ at + length (repairLine number) ≤ longestText ⌝ }
+    requires { ⌜ at + length (repairLine number) ≤ lastPlace ⌝ }
     ensures { λ r. ⌜ Placed (now (room .entry)) (now (room .exit)) at r (repairLine number) ⌝ }
 {
     let repair = Repair::of(number);
@@ -49,7 +49,7 @@ fn repair_line(room: &mut [u8], at: usize, number: usize) -> usize
 }
 
 fn repair_lines(room: &mut [u8], at: usize, list: &[u16]) -> usize
-    requires { ⌜ at + length (each repairLine (now list)) ≤ longestText ⌝ }
+    requires { ⌜ at + length (each repairLine (now list)) ≤ lastPlace ⌝ }
     ensures { λ r. ⌜ Placed (now (room .entry)) (now (room .exit)) at r (each repairLine (now (list .entry))) ⌝ }
 {
     let mut next = at;
@@ -60,7 +60,7 @@ fn repair_lines(room: &mut [u8], at: usize, list: &[u16]) -> usize
 }
 
 fn answer_lines(room: &mut [u8], at: usize, list: &[u16]) -> usize
-    requires { ⌜ at + length (answerLines (now list)) ≤ longestText ⌝ }
+    requires { ⌜ at + length (answerLines (now list)) ≤ lastPlace ⌝ }
     ensures { λ r. ⌜ Placed (now (room .entry)) (now (room .exit)) at r (answerLines (now (list .entry))) ⌝ }
 {
     let count = [list.len()];

@@ -1,6 +1,4 @@
 -- The laws of the writer.
-pub mod PlacingLaws
-pub mod Gathering
 pub mod PieceLaws
 pub mod SectionLength
 pub mod WritingLaws

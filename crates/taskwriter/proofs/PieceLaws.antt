@@ -1,19 +1,20 @@
--- A record that is written only where a test holds.
+-- A record that is written only where a test tells that its fact is in the set.
 use mathlib.Core.Bool.{Bool, true, false}
 use mathlib.Core.List.{List}
-use mathlib.Core.Path.{_≡_}
+use mathlib.Core.Path.{_≡_, sym, _∙_}
 use Prim.Native.Nat.{ℕ, _+_, _≤_}
 use lib.ListN.{length}
 use Rattle.table.specs.Lists.{piece}
-use Rattle.taskwriter.specs.Placing.{Placed}
-use Rattle.taskwriter.proofs.PlacingLaws.{placed-none}
+use Rattle.room.specs.Placing.{Placed}
+use Rattle.room.proofs.PlacingLaws.{placed-none}
 
-pub piece-fits : (b : Bool) (l : List ℕ) (at most : ℕ) → b ≡ true → at + length (piece b l) ≤ most → at + length l ≤ most
-piece-fits b l at most e h = rw e at h
+module _ {test : Bool} (b : Bool) (told : test ≡ b) where
+  pub piece-fits : (l : List ℕ) (at most : ℕ) → test ≡ true → at + length (piece b l) ≤ most → at + length l ≤ most
+  piece-fits l at most e h = rw (sym told ∙ e) at h
 
-pub piece-placed : (b : Bool) {l room room′ : List ℕ} {at next : ℕ} → b ≡ true
-    → Placed room room′ at next l → Placed room room′ at next (piece b l)
-piece-placed b e h = rw e h
+  pub piece-placed : {l room room′ : List ℕ} {at next : ℕ} → test ≡ true
+      → Placed room room′ at next l → Placed room room′ at next (piece b l)
+  piece-placed e h = rw (sym told ∙ e) h
 
-pub piece-left-out : (b : Bool) (l room : List ℕ) (at : ℕ) → b ≡ false → Placed room room at at (piece b l)
-piece-left-out b l room at e = rw e (placed-none room at)
+  pub piece-left-out : (l room : List ℕ) (at : ℕ) → test ≡ false → Placed room room at at (piece b l)
+  piece-left-out l room at e = rw (sym told ∙ e) (placed-none room at)

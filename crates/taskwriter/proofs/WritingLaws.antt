@@ -11,9 +11,9 @@ use Rattle.table.specs.Tasks.{formed}
 use Rattle.table.specs.declared.Reply.{Reply}
 use Rattle.table.specs.declared.Task.{Task}
 use Rattle.taskfile.specs.Format.{fileOf}
-use Rattle.taskwriter.specs.Placing.{Placed}
+use Rattle.room.specs.Placing.{Placed}
 use Rattle.taskwriter.specs.Writing.{checks, outcome, written, filled, refusedWrite, acceptedWrite}
-use Rattle.taskwriter.proofs.PlacingLaws.{placed-whole}
+use Rattle.room.proofs.PlacingLaws.{placed-whole}
 
 module _ (t : Task) (room : List ℕ) where
   pub written-unformed : {r : Reply} → r ≡ refusedWrite notWellFormed 0 → formed t ≡ false → (r, room) ≡ written t room

@@ -1,4 +1,3 @@
 -- What the contracts of `taskwriter` cite.
 pub mod Writing
-pub mod Placing
 pub mod Pieces

@@ -1,11 +1,8 @@
 -- The parts of Format's file by name: what the writer's inner functions write.
 use mathlib.Core.List.{List, [], _∷_, _++_}
 use Prim.Native.Nat.{ℕ}
-use lib.ListN.{getD}
 use Rattle.facts.specs.Sets.{has}
 use Rattle.table.specs.Lists.{gather, piece}
-use Rattle.table.specs.declared.Run.{Run}
-use Rattle.table.specs.declared.Table.{Table}
 use Rattle.table.specs.declared.Task.{Task}
 use Rattle.taskfile.specs.Format.{sizesKind, startKind, goalKind, needKind, addKind, deleteKind, factRecords, cellRecords}
 

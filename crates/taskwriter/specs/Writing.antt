@@ -1,11 +1,10 @@
 -- What writing a task into lent room gives, for every task and every room: document 01, "The task file" and
 -- "Refusal numbers".
-use mathlib.Core.Bool.{Bool, cond, not}
+use mathlib.Core.Bool.{cond, not}
 use mathlib.Core.List.{List, [], _∷_, _++_}
-use Prim.Native.Nat.{ℕ, _+_, _*_}
+use Prim.Native.Nat.{ℕ, _+_}
 use lib.Dec.{eqb, ltb}
 use lib.ListN.{length, drop}
-use Rattle.table.specs.Sizes.{maxFacts, maxActions, maxSteps}
 use Rattle.table.specs.Refusals.{Check, Refusal, refuse, firstOf, accepted, roomTooShort, notWellFormed}
 use Rattle.table.specs.Tasks.{formed}
 use Rattle.table.specs.declared.Task.{Task}

@@ -9,12 +9,12 @@ use crate::kinds::START;
 use crate::records::cell_records;
 use crate::records::fact_records;
 use crate::records::step_records;
-use crate::room::put;
-use crate::room::put_two;
+use room::put;
+use room::put_word;
 use table::Task;
 ghost use Rattle.table.specs.Tasks.{WellFormed};
+ghost use Rattle.room.specs.Placing.{Placed};
 ghost use Rattle.taskfile.specs.Format.{fileOf};
-ghost use Rattle.taskwriter.specs.Placing.{Placed};
 ghost use Rattle.taskwriter.specs.Pieces.{sizesOf, throughGoals, throughCells};
 
 fn sizes(task: Task, room: &mut [u8]) -> usize
@@ -22,8 +22,13 @@ fn sizes(task: Task, room: &mut [u8]) -> usize
     ensures { λ r. ⌜ Placed (now (room .entry)) (now (room .exit)) 0 r (sizesOf task) ⌝ }
 {
     let table = task.table;
-    let next = put_two(room, 0, SIZES, table.facts as u8, table.actions as u8);
-    put(room, next, table.limit as u8)
+    let bytes = [
+        SIZES,
+        table.facts as u8,
+        table.actions as u8,
+        table.limit as u8,
+    ];
+    put_word(room, 0, &bytes)
 }
 
 fn through_goals(task: Task, room: &mut [u8]) -> usize

@@ -2,7 +2,6 @@
 mod file;
 mod kinds;
 mod records;
-mod room;
 
 use file::whole;
 use table::Reply;

@@ -1,48 +1,38 @@
 // The records of a file, section by section: one loop each, over the pieces that Format gathers.
 use crate::kinds::STEP;
-use crate::room::put_one;
-use crate::room::put_two;
+use room::put_word;
 use table::ACTIONS;
 use table::Run;
 ghost use Prim.Native.Nat.{_+_, _<_, _≤_};
 ghost use lib.ListN.{length};
+ghost use Rattle.facts.specs.Sets.{has};
+ghost use Rattle.table.specs.Lists.{piece};
 ghost use Rattle.table.specs.Sizes.{maxFacts, maxActions, maxSteps};
 ghost use Rattle.taskfile.specs.Format.{factRecords, cellRecords, stepRecords};
-ghost use Rattle.taskfile.specs.Lengths.{longestFile};
-ghost use Rattle.taskwriter.specs.Placing.{Placed};
-ghost use Rattle.taskwriter.specs.Pieces.{factRecord, cellRecord, actionRecords};
+ghost use Rattle.room.specs.Placing.{lastPlace, Placed};
+ghost use Rattle.taskwriter.specs.Pieces.{actionRecords};
 
-// The record of one fact, where it is in the set.
-fn fact_record(room: &mut [u8], at: usize, kind: u8, set: u64, fact: usize) -> usize
-    requires { ⌜ (at + length (factRecord kind set fact) ≤ longestFile) × (fact < maxFacts) ⌝ }
-    ensures { λ r. ⌜ Placed (now (room .entry)) (now (room .exit)) at r (factRecord kind set fact) ⌝ }
+// A record that stands only for a fact of the set.
+fn record_if_in(room: &mut [u8], at: usize, set: u64, fact: usize, bytes: &[u8]) -> usize
+    requires { ⌜ at + length (piece (has set fact) (now bytes)) ≤ lastPlace ⌝ }
+    ensures { λ r. ⌜ Placed (now (room .entry)) (now (room .exit)) at r (piece (has set fact) (now (bytes .entry))) ⌝ }
 {
     if facts::contains(set, fact) {
-        return put_one(room, at, kind, fact as u8);
+        return put_word(room, at, bytes);
     }
     at
 }
 
 pub fn fact_records(room: &mut [u8], at: usize, kind: u8, facts: usize, set: u64) -> usize
-    requires { ⌜ (at + length (factRecords kind facts set) ≤ longestFile) × (facts ≤ maxFacts) ⌝ }
+    requires { ⌜ (at + length (factRecords kind facts set) ≤ lastPlace) × (facts ≤ maxFacts) ⌝ }
     ensures { λ r. ⌜ Placed (now (room .entry)) (now (room .exit)) at r (factRecords kind facts set) ⌝ }
 {
     let mut next = at;
     for fact in 0..facts {
-        next = fact_record(room, next, kind, set, fact);
+        let bytes = [kind, fact as u8];
+        next = record_if_in(room, next, set, fact, &bytes);
     }
     next
-}
-
-// The record of one cell, where it is set.
-fn cell_record(room: &mut [u8], at: usize, kind: u8, action: usize, set: u64, fact: usize) -> usize
-    requires { ⌜ (at + length (cellRecord kind action set fact) ≤ longestFile) × (action < maxActions) × (fact < maxFacts) ⌝ }
-    ensures { λ r. ⌜ Placed (now (room .entry)) (now (room .exit)) at r (cellRecord kind action set fact) ⌝ }
-{
-    if facts::contains(set, fact) {
-        return put_two(room, at, kind, action as u8, fact as u8);
-    }
-    at
 }
 
 // The cells of one action.
@@ -54,12 +44,13 @@ fn action_records(
     action: usize,
     set: u64,
 ) -> usize
-    requires { ⌜ (at + length (actionRecords kind facts action set) ≤ longestFile) × (action < maxActions) × (facts ≤ maxFacts) ⌝ }
+    requires { ⌜ (at + length (actionRecords kind facts action set) ≤ lastPlace) × (action < maxActions) × (facts ≤ maxFacts) ⌝ }
     ensures { λ r. ⌜ Placed (now (room .entry)) (now (room .exit)) at r (actionRecords kind facts action set) ⌝ }
 {
     let mut next = at;
     for fact in 0..facts {
-        next = cell_record(room, next, kind, action, set, fact);
+        let bytes = [kind, action as u8, fact as u8];
+        next = record_if_in(room, next, set, fact, &bytes);
     }
     next
 }
@@ -72,7 +63,7 @@ pub fn cell_records(
     actions: usize,
     sets: [u64; ACTIONS],
 ) -> usize
-    requires { ⌜ (at + length (cellRecords kind facts actions sets) ≤ longestFile) × (facts ≤ maxFacts) × (actions ≤ maxActions) ⌝ }
+    requires { ⌜ (at + length (cellRecords kind facts actions sets) ≤ lastPlace) × (facts ≤ maxFacts) × (actions ≤ maxActions) ⌝ }
     ensures { λ r. ⌜ Placed (now (room .entry)) (now (room .exit)) at r (cellRecords kind facts actions sets) ⌝ }
 {
     let mut next = at;
@@ -83,13 +74,14 @@ pub fn cell_records(
 }
 
 pub fn step_records(room: &mut [u8], at: usize, run: Run) -> usize
-    requires { ⌜ (at + length (stepRecords run) ≤ longestFile) × (run .count ≤ maxSteps) ⌝ }
+    requires { ⌜ (at + length (stepRecords run) ≤ lastPlace) × (run .count ≤ maxSteps) ⌝ }
     ensures { λ r. ⌜ Placed (now (room .entry)) (now (room .exit)) at r (stepRecords run) ⌝ }
 {
     let steps = run.steps;
     let mut next = at;
     for i in 0..run.count {
-        next = put_one(room, next, STEP, steps[i]);
+        let bytes = [STEP, steps[i]];
+        next = put_word(room, next, &bytes);
     }
     next
 }

@@ -1,6 +1,6 @@
 -- `give_task` places the number, the place and the words of the task.
 use native.Mathlib.Omega.{arith}
-use Rattle.taskwriter.proofs.PlacingLaws.{placed-more}
+use Rattle.room.proofs.PlacingLaws.{placed-more}
 use Rattle.boundary.proofs.PuttingLaws.{given-words}
 use mathlib.Core.Path.{_≡_}
 use lib.ListN.{length}

@@ -1,6 +1,6 @@
 -- `put` stores the word where the room has a place for it, and only counts it past the room.
 use native.Mathlib.Omega.{arith}
-use Rattle.taskwriter.proofs.PlacingLaws.{placed-byte, placed-past}
+use Rattle.room.proofs.PlacingLaws.{placed-byte, placed-past}
 use borrow.Author.Needs.{needs}
 use Rattle.boundary.proofs.answer.put.Statement.{statement}
 use Rattle.boundary.proofs.answer.put.Tie as tie

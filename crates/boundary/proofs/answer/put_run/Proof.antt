@@ -1,5 +1,5 @@
 -- `put_run` places start, goal and count, then the steps.
-use Rattle.taskwriter.proofs.PlacingLaws.{placed-more}
+use Rattle.room.proofs.PlacingLaws.{placed-more}
 use Rattle.boundary.specs.Words.{runOut}
 use borrow.Author.Needs.{needs}
 use Rattle.boundary.proofs.answer.put_run.Statement.{statement}

@@ -1,6 +1,6 @@
 -- `put_table` places the sizes and the limit, then needs, adds and deletes.
 use native.Mathlib.Omega.{arith}
-use Rattle.taskwriter.proofs.PlacingLaws.{placed-more}
+use Rattle.room.proofs.PlacingLaws.{placed-more}
 use mathlib.Core.Path.{_≡_}
 use lib.ListN.{length}
 use Rattle.table.specs.Sizes.{maxActions}

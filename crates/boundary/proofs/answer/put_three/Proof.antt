@@ -1,5 +1,5 @@
 -- `put_three` places two words and one more.
-use Rattle.taskwriter.proofs.PlacingLaws.{placed-more}
+use Rattle.room.proofs.PlacingLaws.{placed-more}
 use borrow.Author.Needs.{needs}
 use Rattle.boundary.proofs.answer.put_three.Statement.{statement}
 use Rattle.boundary.proofs.answer.put_three.Tie as tie

@@ -1,5 +1,5 @@
 -- `put_two` places two words, one after the other.
-use Rattle.taskwriter.proofs.PlacingLaws.{placed-more}
+use Rattle.room.proofs.PlacingLaws.{placed-more}
 use borrow.Author.Needs.{needs}
 use Rattle.boundary.proofs.answer.put_two.Statement.{statement}
 use Rattle.boundary.proofs.answer.put_two.Tie as tie

@@ -1,6 +1,9 @@
 -- `first_lines`: the sizes' line and the run check's.
-use Rattle.taskwriter.proofs.PlacingLaws.{placed-more}
-use Rattle.listing.proofs.TextLength.{task-fits, open-fits}
+use Rattle.room.proofs.PlacingLaws.{placed-more}
+use native.Mathlib.Omega.{arith}
+use lib.ListN.{length-append}
+use Rattle.listing.specs.Text.{taskLine, openLine}
+use Rattle.listing.proofs.TextLength.{first-most}
 use borrow.Author.Needs.{needs}
 use Rattle.listing.proofs.lines.first_lines.Statement.{statement}
 use Rattle.listing.proofs.lines.first_lines.Tie as tie
@@ -12,7 +15,9 @@ slice-aggregate-put-line-2 : tie.Need-slice-aggregate-put-line-2
 slice-aggregate-put-line-2 c = search needs
 
 put-line-requires : tie.Need-put-line-requires
-put-line-requires c κs = task-fits (c .before .before .before .before .before .args .task)
+put-line-requires c κs =
+    let s = c .before .before .before .before .before in
+    omega (arith, first-most (s .args .task) (s .args .found), length-append (taskLine (s .args .task)) (openLine (s .args .found)))
 
 slice-aggregate-put-line-3 : tie.Need-slice-aggregate-put-line-3
 slice-aggregate-put-line-3 c = search needs
@@ -22,9 +27,8 @@ slice-aggregate-put-line-4 c = search needs
 
 put-line-requires-2 : tie.Need-put-line-requires-2
 put-line-requires-2 c κs =
-    let z = c .before .before .before .before .before in
-    let a = z .before .before .before .before .before .before .args in
-    open-fits (a .task) (a .found) (z .put-line .result) (z .put-line .ensures .next-is)
+    let s = c .before .before .before .before .before .before .before .before .before .before .before in
+    omega (arith, first-most (s .args .task) (s .args .found), length-append (taskLine (s .args .task)) (openLine (s .args .found)))
 
 same-length : tie.Need-same-length
 same-length c = search needs

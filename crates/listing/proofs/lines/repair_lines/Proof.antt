@@ -1,20 +1,25 @@
 -- `repair_lines`: one line for each repair.
 use Prim.Native.Nat.{_-_}
 use native.Mathlib.Omega.{arith}
+use lib.ListN.{length, getD}
 use borrow.Author.Needs.{needs}
 use Rattle.listing.specs.Text.{repairLine}
-use Rattle.listing.proofs.Putting.{Putting, begun, next-fits, one-more, all-placed, length-kept}
+use Rattle.listing.proofs.EachLaws.{each-gathered}
+use Rattle.room.proofs.Gathering.{Gathering, begun, next-fits, one-more, all-placed, length-kept}
 use Rattle.listing.proofs.lines.repair_lines.Statement.{statement}
 use Rattle.listing.proofs.lines.repair_lines.Tie as tie
 
 abbrev Inv-loop : tie.InvT-loop
-Inv-loop room₀ at list next₀ i₀ i-end room next i = Putting repairLine list room₀ room at next i
+Inv-loop room₀ at list next₀ i₀ i-end room next i =
+    Gathering (λ k. repairLine (getD list k 0)) (length list) room₀ room at next i
 
 abbrev μ-loop : tie.MeasureT-loop
 μ-loop room₀ at list next₀ i₀ i-end room next i = i-end - i
 
 loop-holds : tie.Need-loop-holds Inv-loop μ-loop
-loop-holds c = begun _ _ _ _ (c .before .before .pre)
+loop-holds c =
+    let s = c .before .before in
+    begun _ _ _ _ (rw (each-gathered repairLine (s .args .list .now)) (s .pre))
 
 mul-repair-line : tie.Need-mul-repair-line Inv-loop μ-loop
 mul-repair-line c = search needs
@@ -43,7 +48,8 @@ same-length : tie.Need-same-length Inv-loop μ-loop
 same-length c = length-kept (c .before .loop .inv)
 
 returns : tie.Need-returns Inv-loop μ-loop
-returns c = all-placed (c .before .loop .inv) (search needs)
+returns c =
+    rw (each-gathered repairLine (c .before .before .before .before .args .list .now)) at (all-placed (c .before .loop .inv) (search needs))
 
 pub repair-lines-spec : {M : Type 1} → statement M
 repair-lines-spec =

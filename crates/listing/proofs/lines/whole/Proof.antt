@@ -3,14 +3,16 @@ use mathlib.Core.Path.{sym}
 use native.Mathlib.Omega.{arith}
 use lib.ListN.{take}
 use lib.Seq.{length-take-le}
-use Rattle.listing.proofs.TextLength.{refusal-fits, then-refusal-fits, then-answer-fits}
+use Rattle.listing.proofs.TextLength.{refused-most, first-most, answer-most}
 use Rattle.listing.proofs.TextLaws.{refused-placed, unsolved-placed, solved-placed}
 use borrow.Author.Needs.{needs}
 use Rattle.listing.proofs.lines.whole.Statement.{statement}
 use Rattle.listing.proofs.lines.whole.Tie as tie
 
 refused-line-requires : tie.Need-refused-line-requires
-refused-line-requires c κs = refusal-fits _ _
+refused-line-requires c κs =
+    let a = c .before .before .before .before .before .args in
+    omega (arith, refused-most (a .read .number) (a .read .place))
 
 same-length : tie.Need-same-length
 same-length c = search needs
@@ -25,7 +27,7 @@ refused-line-requires-2 : tie.Need-refused-line-requires-2
 refused-line-requires-2 c κs =
     let z = c .before .before .before .before .before in
     let a = z .before .before .before .before .before .before .before .args in
-    then-refusal-fits (a .read .task) (a .found) (z .first-lines .result) (z .first-lines .ensures .next-is) (a .solved .number) (a .solved .place)
+    omega (arith, z .first-lines .ensures .next-is, first-most (a .read .task) (a .found), refused-most (a .solved .number) (a .solved .place))
 
 same-length-2 : tie.Need-same-length-2
 same-length-2 c = search needs
@@ -43,8 +45,13 @@ answer-lines-requires : tie.Need-answer-lines-requires
 answer-lines-requires c κs =
     let z = c .before .before .before .before .before .before in
     let a = z .before .before .before .before .before .before .before .args in
-    then-answer-fits (a .read .task) (a .found) (z .first-lines .result) (z .first-lines .ensures .next-is)
-    (take (a .solved .length) (a .list .now)) (omega (arith, length-take-le (a .solved .length) (a .list .now) (omega arith)))
+    let few = length-take-le (a .solved .length) (a .list .now) (omega arith) in
+    omega (
+      arith,
+      z .first-lines .ensures .next-is,
+      first-most (a .read .task) (a .found),
+      answer-most (take (a .solved .length) (a .list .now)) (omega arith),
+    )
 
 same-length-3 : tie.Need-same-length-3
 same-length-3 c = search needs

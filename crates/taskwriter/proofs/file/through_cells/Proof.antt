@@ -1,10 +1,8 @@
 -- `through_cells` places needs, adds and deletes after the goals.
-use Prim.Native.Nat.{_+_, _*_, _≤_}
 use native.Mathlib.Omega.{arith}
-use Rattle.taskfile.specs.Format.{needKind, addKind, deleteKind}
+use Rattle.room.proofs.PlacingLaws.{placed-more}
 use Rattle.taskwriter.specs.Pieces.{throughCells}
-use Rattle.taskwriter.proofs.PlacingLaws.{placed-more}
-use Rattle.taskwriter.proofs.SectionLength.{goalsMost, cellsMost, goals-length, cells-reach, cells-fit}
+use Rattle.taskwriter.proofs.SectionLength.{cells-fit}
 use borrow.Author.Needs.{needs}
 use Rattle.taskwriter.proofs.file.through_cells.Statement.{statement}
 use Rattle.taskwriter.proofs.file.through_cells.Tie as tie
@@ -19,44 +17,23 @@ goals-of c = c .before .before .before .before
 abbrev needs-of : tie.After-cell-records2 → tie.After-cell-records
 needs-of c = c .before .before .before .before
 
-goals-end : (c : tie.After-through-goals) → c .through-goals .result ≤ goalsMost
-goals-end c = omega (arith, c .through-goals .ensures .next-is, goals-length (entry c .args .task) (entry c .pre))
-
-needs-end : (c : tie.After-cell-records) → c .cell-records .result ≤ goalsMost + cellsMost
-needs-end c =
-    let s = entry (goals-of c) in
-    cells-reach (s .args .task) (s .pre) goalsMost (goals-end (goals-of c)) needKind (s .args .task .table .needs)
-    (c .cell-records .ensures)
-
-adds-end : (c : tie.After-cell-records2) → c .cell-records2 .result ≤ goalsMost + cellsMost + cellsMost
-adds-end c =
-    let s = entry (goals-of (needs-of c)) in
-    cells-reach (s .args .task) (s .pre) (goalsMost + cellsMost) (needs-end (needs-of c)) addKind (s .args .task .table .adds)
-    (c .cell-records2 .ensures)
-
 through-goals-requires : tie.Need-through-goals-requires
 through-goals-requires c κs = search needs
 
 cell-records-requires : tie.Need-cell-records-requires
 cell-records-requires c κs =
-    let z = c .before .before .before in
-    let s = entry z in
-    cells-fit (s .args .task) (s .pre) needKind (s .args .task .table .needs) (z .through-goals .result)
-    (omega (arith, goals-end z))
+    let s = entry (c .before .before .before) in
+    (omega (arith, cells-fit (s .args .task) (s .pre)), s .pre .facts-high, s .pre .actions-high)
 
 cell-records-requires-2 : tie.Need-cell-records-requires-2
 cell-records-requires-2 c κs =
-    let z = c .before .before .before in
-    let s = entry (goals-of z) in
-    cells-fit (s .args .task) (s .pre) addKind (s .args .task .table .adds) (z .cell-records .result)
-    (omega (arith, needs-end z))
+    let s = entry (goals-of (c .before .before .before)) in
+    (omega (arith, cells-fit (s .args .task) (s .pre)), s .pre .facts-high, s .pre .actions-high)
 
 cell-records-requires-3 : tie.Need-cell-records-requires-3
 cell-records-requires-3 c κs =
-    let z = c .before .before .before in
-    let s = entry (goals-of (needs-of z)) in
-    cells-fit (s .args .task) (s .pre) deleteKind (s .args .task .table .deletes) (z .cell-records2 .result)
-    (omega (arith, adds-end z))
+    let s = entry (goals-of (needs-of (c .before .before .before))) in
+    (omega (arith, cells-fit (s .args .task) (s .pre)), s .pre .facts-high, s .pre .actions-high)
 
 same-length : tie.Need-same-length
 same-length c = search needs

@@ -1,8 +1,9 @@
 -- `action_records`: one record for each cell of one action.
 use Prim.Native.Nat.{_-_}
 use native.Mathlib.Omega.{arith}
+use borrow.Author.Needs.{needs}
+use Rattle.room.proofs.Gathering.{Gathering, begun, next-fits, one-more, all-placed, length-kept}
 use Rattle.taskwriter.specs.Pieces.{cellRecord}
-use Rattle.taskwriter.proofs.Gathering.{Gathering, begun, next-fits, one-more, all-placed, length-kept}
 use Rattle.taskwriter.proofs.records.action_records.Statement.{statement}
 use Rattle.taskwriter.proofs.records.action_records.Tie as tie
 
@@ -16,8 +17,17 @@ abbrev μ-loop : tie.MeasureT-loop
 loop-holds : tie.Need-loop-holds Inv-loop μ-loop
 loop-holds c = begun _ _ _ _ (c .before .pre .0)
 
-cell-record-requires : tie.Need-cell-record-requires Inv-loop μ-loop
-cell-record-requires c κs = (next-fits (c .before .before .loop .inv) (c .before .loop-test .taken), omega arith, omega arith)
+cast-t11 : tie.Need-cast-t11 Inv-loop μ-loop
+cast-t11 c = search needs
+
+cast-t12 : tie.Need-cast-t12 Inv-loop μ-loop
+cast-t12 c = search needs
+
+slice-aggregate-record-if-in : tie.Need-slice-aggregate-record-if-in Inv-loop μ-loop
+slice-aggregate-record-if-in c = search needs
+
+record-if-in-requires : tie.Need-record-if-in-requires Inv-loop μ-loop
+record-if-in-requires c κs = next-fits (c .before .before .before .loop .inv) (c .before .before .loop-test .taken)
 
 add-fact : tie.Need-add-fact Inv-loop μ-loop
 add-fact c = omega arith
@@ -27,8 +37,8 @@ loop-less c = omega arith
 
 loop-again : tie.Need-loop-again Inv-loop μ-loop
 loop-again c =
-    let z = c .before .before .before .before in
-    one-more (z .before .loop .inv) (z .loop-test .taken) (c .before .before .cell-record .ensures)
+    let z = c .before .before .before .before .before in
+    one-more (z .before .loop .inv) (z .loop-test .taken) (c .before .before .record-if-in .ensures)
 
 same-length : tie.Need-same-length Inv-loop μ-loop
 same-length c = length-kept (c .before .loop .inv)
@@ -43,7 +53,10 @@ action-records-spec =
     Inv-loop
     μ-loop
     loop-holds
-    cell-record-requires
+    cast-t11
+    cast-t12
+    slice-aggregate-record-if-in
+    record-if-in-requires
     add-fact
     loop-less
     loop-again

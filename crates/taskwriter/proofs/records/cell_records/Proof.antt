@@ -5,7 +5,7 @@ use native.Mathlib.Omega.{arith}
 use borrow.Author.Needs.{needs}
 use Rattle.taskfile.specs.Format.{cellRecords}
 use Rattle.taskwriter.specs.Pieces.{actionRecords}
-use Rattle.taskwriter.proofs.Gathering.{Gathering, begun, next-fits, one-more, all-placed, length-kept}
+use Rattle.room.proofs.Gathering.{Gathering, begun, next-fits, one-more, all-placed, length-kept}
 use Rattle.taskwriter.proofs.records.cell_records.Statement.{statement}
 use Rattle.taskwriter.proofs.records.cell_records.Tie as tie
 

@@ -1,9 +1,10 @@
 -- `fact_records`: one record for each fact of the set.
 use Prim.Native.Nat.{_-_}
 use native.Mathlib.Omega.{arith}
+use borrow.Author.Needs.{needs}
+use Rattle.room.proofs.Gathering.{Gathering, begun, next-fits, one-more, all-placed, length-kept}
 use Rattle.taskfile.specs.Format.{factRecords}
 use Rattle.taskwriter.specs.Pieces.{factRecord}
-use Rattle.taskwriter.proofs.Gathering.{Gathering, begun, next-fits, one-more, all-placed, length-kept}
 use Rattle.taskwriter.proofs.records.fact_records.Statement.{statement}
 use Rattle.taskwriter.proofs.records.fact_records.Tie as tie
 
@@ -18,8 +19,14 @@ loop-holds : tie.Need-loop-holds Inv-loop μ-loop
 unfolding factRecords
 loop-holds c = begun _ _ _ _ (c .before .pre .0)
 
-fact-record-requires : tie.Need-fact-record-requires Inv-loop μ-loop
-fact-record-requires c κs = (next-fits (c .before .before .loop .inv) (c .before .loop-test .taken), omega arith)
+cast-t10 : tie.Need-cast-t10 Inv-loop μ-loop
+cast-t10 c = search needs
+
+slice-aggregate-record-if-in : tie.Need-slice-aggregate-record-if-in Inv-loop μ-loop
+slice-aggregate-record-if-in c = search needs
+
+record-if-in-requires : tie.Need-record-if-in-requires Inv-loop μ-loop
+record-if-in-requires c κs = next-fits (c .before .before .before .loop .inv) (c .before .before .loop-test .taken)
 
 add-fact : tie.Need-add-fact Inv-loop μ-loop
 add-fact c = omega arith
@@ -29,8 +36,8 @@ loop-less c = omega arith
 
 loop-again : tie.Need-loop-again Inv-loop μ-loop
 loop-again c =
-    let z = c .before .before .before .before in
-    one-more (z .before .loop .inv) (z .loop-test .taken) (c .before .before .fact-record .ensures)
+    let z = c .before .before .before .before .before in
+    one-more (z .before .loop .inv) (z .loop-test .taken) (c .before .before .record-if-in .ensures)
 
 same-length : tie.Need-same-length Inv-loop μ-loop
 same-length c = length-kept (c .before .loop .inv)
@@ -46,7 +53,9 @@ fact-records-spec =
     Inv-loop
     μ-loop
     loop-holds
-    fact-record-requires
+    cast-t10
+    slice-aggregate-record-if-in
+    record-if-in-requires
     add-fact
     loop-less
     loop-again

@@ -5,7 +5,7 @@ use Prim.Native.Nat.{_-_}
 use native.Mathlib.Omega.{arith}
 use borrow.Author.Needs.{needs}
 use Rattle.taskfile.specs.Format.{stepKind, stepRecords}
-use Rattle.taskwriter.proofs.Gathering.{Gathering, begun, next-fits, one-more, all-placed, length-kept}
+use Rattle.room.proofs.Gathering.{Gathering, begun, next-fits, one-more, all-placed, length-kept}
 use Rattle.taskwriter.proofs.records.step_records.Statement.{statement}
 use Rattle.taskwriter.proofs.records.step_records.Tie as tie
 
@@ -20,11 +20,14 @@ loop-holds : tie.Need-loop-holds Inv-loop μ-loop
 unfolding stepRecords
 loop-holds c = begun _ _ _ _ (c .before .before .pre .0)
 
-array-read-put-one : tie.Need-array-read-put-one Inv-loop μ-loop
-array-read-put-one c = search needs
+array-read-t12 : tie.Need-array-read-t12 Inv-loop μ-loop
+array-read-t12 c = search needs
 
-put-one-requires : tie.Need-put-one-requires Inv-loop μ-loop
-put-one-requires c κs = next-fits (c .before .before .loop .inv) (c .before .loop-test .taken)
+slice-aggregate-put-word : tie.Need-slice-aggregate-put-word Inv-loop μ-loop
+slice-aggregate-put-word c = search needs
+
+put-word-requires : tie.Need-put-word-requires Inv-loop μ-loop
+put-word-requires c κs = next-fits (c .before .before .before .loop .inv) (c .before .before .loop-test .taken)
 
 add-i : tie.Need-add-i Inv-loop μ-loop
 add-i c = omega arith
@@ -34,8 +37,8 @@ loop-less c = omega arith
 
 loop-again : tie.Need-loop-again Inv-loop μ-loop
 loop-again c =
-    let z = c .before .before .before .before in
-    one-more (z .before .loop .inv) (z .loop-test .taken) (c .before .before .put-one .ensures)
+    let z = c .before .before .before .before .before in
+    one-more (z .before .loop .inv) (z .loop-test .taken) (c .before .before .put-word .ensures)
 
 same-length : tie.Need-same-length Inv-loop μ-loop
 same-length c = length-kept (c .before .loop .inv)
@@ -51,8 +54,9 @@ step-records-spec =
     Inv-loop
     μ-loop
     loop-holds
-    array-read-put-one
-    put-one-requires
+    array-read-t12
+    slice-aggregate-put-word
+    put-word-requires
     add-i
     loop-less
     loop-again

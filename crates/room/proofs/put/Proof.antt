@@ -1,9 +1,9 @@
 -- `put` stores the byte where the room has a place for it, and only counts it past the room.
 use borrow.Author.Needs.{needs}
 use native.Mathlib.Omega.{arith}
-use Rattle.taskwriter.proofs.PlacingLaws.{placed-byte, placed-past}
-use Rattle.taskwriter.proofs.room.put.Statement.{statement}
-use Rattle.taskwriter.proofs.room.put.Tie as tie
+use Rattle.room.proofs.PlacingLaws.{placed-byte, placed-past}
+use Rattle.room.proofs.put.Statement.{statement}
+use Rattle.room.proofs.put.Tie as tie
 
 slice-write-room : tie.Need-slice-write-room
 slice-write-room c = search needs

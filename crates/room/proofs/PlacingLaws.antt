@@ -1,13 +1,12 @@
--- Bytes placed one after another are placed as one list, and a list that fits fills the room's first places.
+-- Bytes placed one after another are placed as one list, and a list that fits fills the room's first places. Assumes nothing.
 use mathlib.Core.List.{List, [], _∷_, _++_}
 use mathlib.Core.Path.{_≡_, refl, _∙_, ap}
-use Prim.Native.Nat.{ℕ, suc, _+_, _≤_, _<_}
-use native.Mathlib.Nat.{add-zero, add-suc, suc-add}
+use Prim.Native.Nat.{ℕ, suc, _+_, _≤_}
+use native.Mathlib.Nat.{add-zero}
 use native.Mathlib.Omega.{arith}
-use lib.ListN.{length, set, take, drop, length-append}
+use lib.ListN.{length, set, drop, length-append}
 use lib.Seq.{sets, sets-eq, set-out, length-sets}
-use Rattle.taskwriter.specs.Writing.{filled}
-use Rattle.taskwriter.specs.Placing.{placed, Placed}
+use Rattle.room.specs.Placing.{placed, Placed}
 
 sets-append : (xs ys l : List ℕ) (i : ℕ) → sets l i (xs ++ ys) ≡ sets (sets l i xs) (i + length xs) ys
 sets-append [] ys l i = rw add-zero
@@ -37,8 +36,9 @@ pub placed-past : (room : List ℕ) (at b : ℕ) → length room ≤ at → Plac
 unfolding placed
 placed-past room at b h = record { next-is = refl; room-is = rw (set-out room at b h) }
 
+-- "from the first on .. and nothing beside"
 pub placed-whole : {before after : List ℕ} {next : ℕ} {bytes : List ℕ}
-    → Placed before after 0 next bytes → length bytes ≤ length before → after ≡ filled before bytes
+    → Placed before after 0 next bytes → length bytes ≤ length before → after ≡ bytes ++ drop (length bytes) before
 unfolding placed
 placed-whole {before} {after} {next} {bytes} p h =
     let fits : 0 + length bytes ≤ length before = omega arith in

@@ -7,13 +7,13 @@ use borrow.Author.Needs.{needs}
 use Rattle.listing.proofs.DigitLaws.{digits-last, more-length, none-placed, last-placed, more-placed}
 use borrow.Fn.Kinds.{In}
 use borrow.Fn.PlainCycle.{Measures, is, falls, and}
-use Rattle.listing.proofs.room.put_digits.Reads as put-digits
-use Rattle.listing.proofs.room.put_digits.Kinds as put-digits-kinds
-use Rattle.listing.proofs.room.+put_digits.Lts-put_digits as put-digits-lts
-use Rattle.listing.proofs.room.digit.Reads as digit-reads
-use Rattle.listing.proofs.room.put.Reads as put-reads
-use Rattle.listing.proofs.room.+put_digits.{statement}
-use Rattle.listing.proofs.room.+put_digits.Tie.{close}
+use Rattle.listing.proofs.fields.put_digits.Reads as put-digits
+use Rattle.listing.proofs.fields.put_digits.Kinds as put-digits-kinds
+use Rattle.listing.proofs.fields.+put_digits.Lts-put_digits as put-digits-lts
+use Rattle.listing.proofs.fields.digit.Reads as digit-reads
+use Rattle.room.proofs.put.Reads as put-reads
+use Rattle.listing.proofs.fields.+put_digits.{statement}
+use Rattle.listing.proofs.fields.+put_digits.Tie.{close}
 
 abbrev μ-put-digits : Measures 1 put-digits-kinds.ps ℕ
 μ-put-digits κs a = a .1 .1 .0

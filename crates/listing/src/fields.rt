@@ -1,37 +1,16 @@
-// The lent room. Past the room a byte is only counted, so that the same functions measure a text and write it.
-ghost use mathlib.Core.List.{[], _∷_};
+// A line of a listing: a word, its fields in decimal, and a line feed.
+use room::put;
+use room::put_word;
 ghost use mathlib.Core.Path.{_≡_};
 ghost use Prim.Native.Nat.{_+_, _<_, _≤_};
 ghost use lib.ListN.{length};
-ghost use Rattle.listing.specs.Text.{longestText, digitZero, digits, field, each, line};
-ghost use Rattle.taskwriter.specs.Placing.{Placed};
+ghost use Rattle.listing.specs.Text.{digitZero, digits, field, each, line};
+ghost use Rattle.room.specs.Placing.{lastPlace, Placed};
 
 // Numbers are decimal; the greatest of 64 bits has twenty digits.
 const BASE: usize = 10;
 
 const MOST_DIGITS: usize = 20;
-
-pub fn put(room: &mut [u8], at: usize, byte: u8) -> usize
-    requires { ⌜ at < longestText ⌝ }
-    ensures { λ r. ⌜ Placed (now (room .entry)) (now (room .exit)) at r (byte ∷ []) ⌝ }
-{
-    if at < room.len() {
-        room[at] = byte;
-        return at + 1;
-    }
-    at + 1
-}
-
-pub fn put_word(room: &mut [u8], at: usize, word: &[u8]) -> usize
-    requires { ⌜ at + length (now word) ≤ longestText ⌝ }
-    ensures { λ r. ⌜ Placed (now (room .entry)) (now (room .exit)) at r (now (word .entry)) ⌝ }
-{
-    let mut next = at;
-    for i in 0..word.len() {
-        next = put(room, next, word[i]);
-    }
-    next
-}
 
 // A digit's byte.
 fn digit(n: usize) -> u8
@@ -43,7 +22,7 @@ fn digit(n: usize) -> u8
 
 // The digits of what is left of the number without its last, and then the last.
 fn put_digits(room: &mut [u8], at: usize, most: usize, n: usize) -> usize
-    requires { ⌜ at + length (digits most n) ≤ longestText ⌝ }
+    requires { ⌜ at + length (digits most n) ≤ lastPlace ⌝ }
     ensures { λ r. ⌜ Placed (now (room .entry)) (now (room .exit)) at r (digits most n) ⌝ }
 {
     if most == 0 {
@@ -57,7 +36,7 @@ fn put_digits(room: &mut [u8], at: usize, most: usize, n: usize) -> usize
 }
 
 fn put_field(room: &mut [u8], at: usize, n: usize) -> usize
-    requires { ⌜ at + length (field n) ≤ longestText ⌝ }
+    requires { ⌜ at + length (field n) ≤ lastPlace ⌝ }
     ensures { λ r. ⌜ Placed (now (room .entry)) (now (room .exit)) at r (field n) ⌝ }
 {
     let next = put(room, at, b' ');
@@ -65,7 +44,7 @@ fn put_field(room: &mut [u8], at: usize, n: usize) -> usize
 }
 
 fn put_fields(room: &mut [u8], at: usize, numbers: &[usize]) -> usize
-    requires { ⌜ at + length (each field (now numbers)) ≤ longestText ⌝ }
+    requires { ⌜ at + length (each field (now numbers)) ≤ lastPlace ⌝ }
     ensures { λ r. ⌜ Placed (now (room .entry)) (now (room .exit)) at r (each field (now (numbers .entry))) ⌝ }
 {
     let mut next = at;
@@ -76,7 +55,7 @@ fn put_fields(room: &mut [u8], at: usize, numbers: &[usize]) -> usize
 }
 
 pub fn put_line(room: &mut [u8], at: usize, word: &[u8], numbers: &[usize]) -> usize
-    requires { ⌜ at + length (line (now word) (now numbers)) ≤ longestText ⌝ }
+    requires { ⌜ at + length (line (now word) (now numbers)) ≤ lastPlace ⌝ }
     ensures { λ r.
         ⌜ Placed (now (room .entry)) (now (room .exit)) at r (line (now (word .entry)) (now (numbers .entry))) ⌝ }
 {

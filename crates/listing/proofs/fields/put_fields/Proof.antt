@@ -1,20 +1,25 @@
 -- `put_fields`: one field after another.
 use Prim.Native.Nat.{_-_}
 use native.Mathlib.Omega.{arith}
+use lib.ListN.{length, getD}
 use borrow.Author.Needs.{needs}
 use Rattle.listing.specs.Text.{field}
-use Rattle.listing.proofs.Putting.{Putting, begun, next-fits, one-more, all-placed, length-kept}
-use Rattle.listing.proofs.room.put_fields.Statement.{statement}
-use Rattle.listing.proofs.room.put_fields.Tie as tie
+use Rattle.listing.proofs.EachLaws.{each-gathered}
+use Rattle.room.proofs.Gathering.{Gathering, begun, next-fits, one-more, all-placed, length-kept}
+use Rattle.listing.proofs.fields.put_fields.Statement.{statement}
+use Rattle.listing.proofs.fields.put_fields.Tie as tie
 
 abbrev Inv-loop : tie.InvT-loop
-Inv-loop room₀ at numbers next₀ i₀ i-end room next i = Putting field numbers room₀ room at next i
+Inv-loop room₀ at numbers next₀ i₀ i-end room next i =
+    Gathering (λ k. field (getD numbers k 0)) (length numbers) room₀ room at next i
 
 abbrev μ-loop : tie.MeasureT-loop
 μ-loop room₀ at numbers next₀ i₀ i-end room next i = i-end - i
 
 loop-holds : tie.Need-loop-holds Inv-loop μ-loop
-loop-holds c = begun _ _ _ _ (c .before .before .pre)
+loop-holds c =
+    let s = c .before .before in
+    begun _ _ _ _ (rw (each-gathered field (s .args .numbers .now)) (s .pre))
 
 mul-put-field : tie.Need-mul-put-field Inv-loop μ-loop
 mul-put-field c = search needs
@@ -40,7 +45,8 @@ same-length : tie.Need-same-length Inv-loop μ-loop
 same-length c = length-kept (c .before .loop .inv)
 
 returns : tie.Need-returns Inv-loop μ-loop
-returns c = all-placed (c .before .loop .inv) (search needs)
+returns c =
+    rw (each-gathered field (c .before .before .before .before .args .numbers .now)) at (all-placed (c .before .loop .inv) (search needs))
 
 pub put-fields-spec : {M : Type 1} → statement M
 put-fields-spec =

@@ -1,8 +1,8 @@
 -- `put_field`: a space and the digits.
-use Rattle.taskwriter.proofs.PlacingLaws.{placed-more}
+use Rattle.room.proofs.PlacingLaws.{placed-more}
 use borrow.Author.Needs.{needs}
-use Rattle.listing.proofs.room.put_field.Statement.{statement}
-use Rattle.listing.proofs.room.put_field.Tie as tie
+use Rattle.listing.proofs.fields.put_field.Statement.{statement}
+use Rattle.listing.proofs.fields.put_field.Tie as tie
 
 put-requires : tie.Need-put-requires
 put-requires c κs = search needs

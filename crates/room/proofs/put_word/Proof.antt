@@ -2,22 +2,21 @@
 use mathlib.Core.List.{[], _∷_}
 use Prim.Native.Nat.{_-_}
 use native.Mathlib.Omega.{arith}
+use lib.ListN.{length, getD}
 use borrow.Author.Needs.{needs}
-use Rattle.listing.proofs.EachLaws.{each-itself}
-use Rattle.listing.proofs.Putting.{Putting, begun, next-fits, one-more, all-placed, length-kept}
-use Rattle.listing.proofs.room.put_word.Statement.{statement}
-use Rattle.listing.proofs.room.put_word.Tie as tie
+use Rattle.room.proofs.Gathering.{Gathering, begun, next-fits, one-more, all-placed, length-kept, gather-itself}
+use Rattle.room.proofs.put_word.Statement.{statement}
+use Rattle.room.proofs.put_word.Tie as tie
 
 abbrev Inv-loop : tie.InvT-loop
-Inv-loop room₀ at word next₀ i₀ i-end room next i = Putting (λ b. b ∷ []) word room₀ room at next i
+Inv-loop room₀ at word next₀ i₀ i-end room next i =
+    Gathering (λ k. getD word k 0 ∷ []) (length word) room₀ room at next i
 
 abbrev μ-loop : tie.MeasureT-loop
 μ-loop room₀ at word next₀ i₀ i-end room next i = i-end - i
 
 loop-holds : tie.Need-loop-holds Inv-loop μ-loop
-loop-holds c =
-    let a = c .before .before .args in
-    begun (λ b. b ∷ []) (a .word .now) (a .room .now) (a .at) (rw (each-itself (a .word .now)) (c .before .before .pre))
+loop-holds c = begun _ _ _ _ (rw (gather-itself (c .before .before .args .word .now)) (c .before .before .pre))
 
 shared-slice-read-put : tie.Need-shared-slice-read-put Inv-loop μ-loop
 shared-slice-read-put c = search needs
@@ -40,7 +39,7 @@ same-length : tie.Need-same-length Inv-loop μ-loop
 same-length c = length-kept (c .before .loop .inv)
 
 returns : tie.Need-returns Inv-loop μ-loop
-returns c = rw (each-itself (c .before .before .before .before .args .word .now)) at (all-placed (c .before .loop .inv) (search needs))
+returns c = rw (gather-itself (c .before .before .before .before .args .word .now)) at (all-placed (c .before .loop .inv) (search needs))
 
 pub put-word-spec : {M : Type 1} → statement M
 put-word-spec =

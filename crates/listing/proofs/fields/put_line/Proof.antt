@@ -2,8 +2,8 @@
 use native.Mathlib.Omega.{arith}
 use Rattle.listing.proofs.LineLaws.{line-length, line-placed}
 use borrow.Author.Needs.{needs}
-use Rattle.listing.proofs.room.put_line.Statement.{statement}
-use Rattle.listing.proofs.room.put_line.Tie as tie
+use Rattle.listing.proofs.fields.put_line.Statement.{statement}
+use Rattle.listing.proofs.fields.put_line.Tie as tie
 
 put-word-requires : tie.Need-put-word-requires
 put-word-requires c κs =

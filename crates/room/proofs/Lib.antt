@@ -1,0 +1,3 @@
+-- The laws of placing.
+pub mod PlacingLaws
+pub mod Gathering
