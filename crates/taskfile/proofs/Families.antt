@@ -10,7 +10,7 @@ use Rattle.facts.specs.Sets.{joined, only}
 use Rattle.table.specs.Repairs.{byKind}
 use Rattle.table.specs.declared.Run.{Run}
 use Rattle.table.specs.declared.Task.{Task}
-use Rattle.taskfile.specs.Format.{sizesKind, startKind, goalKind, needKind, addKind, deleteKind, stepKind, isKind, isCellKind, isFactKind, bodyLength}
+use Rattle.taskfile.specs.Format.{sizesKind, startKind, goalKind, needKind, addKind, deleteKind, stepKind, endKind, isKind, isCellKind, isFactKind, bodyLength}
 use Rattle.taskfile.specs.Reading.{runAfter}
 use Rattle.taskfile.proofs.Ranks.{factSet, factPiece, cellPiece, slotPiece}
 
@@ -45,75 +45,61 @@ pub data Family (k : ℕ) : Type 0 where
   ofCell : CellKind k → Family k
   ofStep : k ≡ stepKind → Family k
 
-pub start-kind : FactKind startKind
-unfolding slotPiece isKind isFactKind isCellKind bodyLength runAfter
-start-kind = record {
-  low = omega arith;
-  high = omega arith;
-  known = refl;
-  fact = refl;
-  not-cell = refl;
-  not-step = refl;
-  length = refl;
-  shape = λ t i. refl;
-  grown = λ r kind x. refl;
+-- From start to goal the tests follow from the range; which of the two it is shows in how its set grows.
+fact-kind : (k : ℕ) → startKind ≤ k → k ≤ goalKind → isFactKind k ≡ true
+    → ((r : Run) (kind x : ℕ) → factSet (runAfter r kind x) k ≡ cond (eqb kind k) (joined (factSet r k) (only x)) (factSet r k))
+    → FactKind k
+unfolding slotPiece isKind isCellKind bodyLength
+fact-kind k low high fact grown = record {
+  low = low;
+  high = high;
+  known = rw (le-leb sizesKind k (omega arith), le-leb k endKind (omega arith));
+  fact = fact;
+  not-cell = rw (lt-leb needKind k (omega arith));
+  not-step = ne-eqb k stepKind (omega arith);
+  length = rw (ne-eqb k sizesKind (omega arith), lt-leb needKind k (omega arith), ne-eqb k endKind (omega arith));
+  shape = λ t i. rw (ne-eqb k sizesKind (omega arith), fact);
+  grown = grown;
 }
+
+-- From need to delete likewise; which of the three it is shows in its mask.
+cell-kind : (k : ℕ) → needKind ≤ k → k ≤ deleteKind → byKind (deleteKind - k) deleteKind addKind needKind ≡ k → CellKind k
+unfolding slotPiece isKind isFactKind isCellKind bodyLength
+cell-kind k low high mask = record {
+  low = low;
+  high = high;
+  known = rw (le-leb sizesKind k (omega arith), le-leb k endKind (omega arith));
+  not-fact = rw (ne-eqb k startKind (omega arith), ne-eqb k goalKind (omega arith));
+  cell = rw (le-leb needKind k low, le-leb k deleteKind high);
+  not-step = ne-eqb k stepKind (omega arith);
+  length = rw (ne-eqb k sizesKind (omega arith), le-leb needKind k low, le-leb k deleteKind high);
+  shape = λ t i.
+      rw (
+        ne-eqb k sizesKind (omega arith),
+        ne-eqb k startKind (omega arith),
+        ne-eqb k goalKind (omega arith),
+        le-leb needKind k low,
+        le-leb k deleteKind high,
+      );
+  mask = mask;
+}
+
+pub start-kind : FactKind startKind
+unfolding isFactKind runAfter
+start-kind = fact-kind startKind (omega arith) (omega arith) refl (λ r kind x. refl)
 
 pub goal-kind : FactKind goalKind
-unfolding slotPiece isKind isFactKind isCellKind bodyLength runAfter
-goal-kind = record {
-  low = omega arith;
-  high = omega arith;
-  known = refl;
-  fact = refl;
-  not-cell = refl;
-  not-step = refl;
-  length = refl;
-  shape = λ t i. refl;
-  grown = λ r kind x. refl;
-}
+unfolding isFactKind runAfter
+goal-kind = fact-kind goalKind (omega arith) (omega arith) refl (λ r kind x. refl)
 
 pub need-kind : CellKind needKind
-unfolding slotPiece isKind isFactKind isCellKind bodyLength
-need-kind = record {
-  low = omega arith;
-  high = omega arith;
-  known = refl;
-  not-fact = refl;
-  cell = refl;
-  not-step = refl;
-  length = refl;
-  shape = λ t i. refl;
-  mask = refl;
-}
+need-kind = cell-kind needKind (omega arith) (omega arith) refl
 
 pub add-kind : CellKind addKind
-unfolding slotPiece isKind isFactKind isCellKind bodyLength
-add-kind = record {
-  low = omega arith;
-  high = omega arith;
-  known = refl;
-  not-fact = refl;
-  cell = refl;
-  not-step = refl;
-  length = refl;
-  shape = λ t i. refl;
-  mask = refl;
-}
+add-kind = cell-kind addKind (omega arith) (omega arith) refl
 
 pub delete-kind : CellKind deleteKind
-unfolding slotPiece isKind isFactKind isCellKind bodyLength
-delete-kind = record {
-  low = omega arith;
-  high = omega arith;
-  known = refl;
-  not-fact = refl;
-  cell = refl;
-  not-step = refl;
-  length = refl;
-  shape = λ t i. refl;
-  mask = refl;
-}
+delete-kind = cell-kind deleteKind (omega arith) (omega arith) refl
 
 beyond : (k : ℕ) → stepKind < k → (t : Task) (i : ℕ) → slotPiece t k i ≡ []
 unfolding slotPiece isFactKind isCellKind

@@ -16,7 +16,19 @@ use table::Table;
 use table::Task;
 use table::refusals;
 ghost use mathlib.Core.Path.{_≡_};
+ghost use Rattle.taskfile.specs.Lengths.{programRoom};
 ghost use Rattle.taskfile.specs.Reading.{ReadsFile, refusedRead, noTask};
+
+// How much of a file the program reads: longer than any file is, so that later bytes can't alter its answer (document 01,
+// "The listing").
+pub const MOST_INPUT: usize = 20_000;
+
+// The code's number is the definitions'.
+pub fn longest_input() -> usize
+    ensures { λ r. ⌜ r ≡ programRoom ⌝ }
+{
+    MOST_INPUT
+}
 
 // What reading a file gives: 0, 0 and the task, or the refusal's number and place and a task of zeros.
 pub struct TaskRead {

@@ -2,9 +2,7 @@
 use libc::STDIN_FILENO;
 use libc::STDOUT_FILENO;
 use listing::LONGEST_TEXT;
-
-// "The program reads standard input, at most 20,000 bytes; later bytes can't alter its answer."
-const MOST_INPUT: usize = 20000;
+use taskfile::MOST_INPUT;
 
 fn main() {
     let mut input = [0u8; MOST_INPUT];
