@@ -1,23 +1,27 @@
--- The bench sheet of document 01 as one table: the starred rows, 1 to 11, in the words of the calls' contracts.
+-- The bench sheet of document 01 as one table: the starred rows, 1 to 11, in the words of the calls' contracts, and beside them the run
+-- check of their tasks and of row 12's. The tasks are in table/specs/Bench, the files in taskfile/specs/BenchFiles.
 use mathlib.Core.Bool.{false}
-use mathlib.Core.List.{List, [], _∷_, _++_}
+use mathlib.Core.List.{List, [], _∷_}
 use mathlib.Core.Path.{_≡_}
-use Prim.Native.Nat.{ℕ, _^_}
+use Prim.Native.Nat.{ℕ}
 use Prim.Native.String.{String}
-use lib.ListN.{length, take, replicate}
+use lib.ListN.{length}
 use Rattle.change.specs.declared.Cell.the-variants.{Delete}
 use Rattle.change.specs.declared.Edit.{Edit}
 use Rattle.listing.specs.Listing.{ListsInto, given}
+use Rattle.runcheck.specs.OpenNeeds.{checked}
+use Rattle.runcheck.specs.declared.Checked.{Checked}
 use Rattle.session.specs.Calls.{Opens, Edits, listed}
 use Rattle.session.specs.declared.Edited.{Edited}
 use Rattle.solve.specs.Solving.{told, Solves}
 use Rattle.solve.specs.Tables.{rowAt}
 use Rattle.table.specs.Answer.{Verdict, found, over, hopeless}
-use Rattle.table.specs.Refusals.{accepted, noEnd, numberOutside, bytesAfterEnd}
-use Rattle.table.specs.Sizes.{maxActions, maxSteps, maxLimit, maxFacts}
+use Rattle.table.specs.Bench.{task, listingTask, limited, strayTask, goalsAtStart, goalOutOfReach, addsAndDeletes, deletesTheGoal, needsLastFact, pairs}
+use Rattle.table.specs.Refusals.{accepted, noEnd, numberOutside, bytesAfterEnd, notWellFormed}
+use Rattle.table.specs.Sizes.{maxLimit}
 use Rattle.table.specs.declared.Reply.{Reply}
 use Rattle.table.specs.declared.Task.{Task}
-use Rattle.taskfile.proofs.BenchRows.{listingFile, listingTask, strayStep}
+use Rattle.taskfile.specs.BenchFiles.{listingFile, withoutEnd, byteAppended, strayStep}
 use Rattle.taskfile.specs.Reading.{ReadsFile, refusedRead, acceptedRead}
 use Rattle.taskfile.specs.declared.TaskRead.{TaskRead}
 use Rattle.listing.specs.Ascii.{bytesOf}
@@ -30,6 +34,8 @@ pub data BenchRow : Type 0 where
   reads : List ℕ → ℕ → TaskRead → BenchRow
   -- the listing of a file is this text, in whatever room is lent
   lists : List ℕ → String → BenchRow
+  -- the run check of a task gives this
+  checks : Task → Checked → BenchRow
   -- a task has this verdict: it is told into whatever room is lent (`told`: over is 10, hopeless is 9)
   solves : Task → Verdict → BenchRow
   -- after one edit of an opened session the listing tells this verdict, and the row of this fact is untouched
@@ -39,6 +45,7 @@ pub data BenchRow : Type 0 where
 abbrev pub Holds : BenchRow → Type 0
 Holds (reads file bytes r) = (length file ≡ bytes) × Only (ReadsFile file) r
 Holds (lists file text) = (room : List ℕ) → Only (ListsInto file room) (given (bytesOf text) room)
+Holds (checks t c) = Only (λ (r : Checked). r ≡ checked t) c
 Holds (solves t v) = (room : List ℕ) → Only (Solves t room) (told v room)
 Holds (edits t e v kept) =
     (s₀ s after : List ℕ) (r₀ : Reply) (r : Edited) → Opens t s₀ r₀ s → r₀ .number ≡ accepted → Edits t s e r after
@@ -49,39 +56,14 @@ pub data AllHold : List BenchRow → Type 0 where
   all : AllHold []
   _and_ : {row : BenchRow} {rows : List BenchRow} → Holds row → AllHold rows → AllHold (row ∷ rows)
 
--- ---- tasks
+-- ---- what the rows give
 
--- An array of n places whose first are l.
-abbrev filled : ℕ → List ℕ → List ℕ
-filled n l = take n (l ++ replicate n 0)
+-- Total open needs, first step, its lowest fact.
+abbrev pub openNeeds : ℕ → ℕ → ℕ → Checked
+openNeeds total step fact = record { number = accepted; place = 0; total = total; step = step; fact = fact }
 
--- F, A and L; the needs, adds and deletes of the first actions; start, goal and steps. A set of facts is a mask: fact f is bit f.
-abbrev pub task : ℕ → ℕ → ℕ → List ℕ → List ℕ → List ℕ → ℕ → ℕ → List ℕ → Task
-task f a l needs adds deletes start goal steps = record {
-  table = record {
-    facts = f;
-    actions = a;
-    limit = l;
-    needs = filled maxActions needs;
-    adds = filled maxActions adds;
-    deletes = filled maxActions deletes;
-  };
-  run = record { start = start; goal = goal; count = length steps; steps = filled maxSteps steps };
-}
-
--- Case 2 with another limit.
-abbrev pub limited : ℕ → Task
-limited l = record {
-  table = record {
-    facts = listingTask .table .facts;
-    actions = listingTask .table .actions;
-    limit = l;
-    needs = listingTask .table .needs;
-    adds = listingTask .table .adds;
-    deletes = listingTask .table .deletes;
-  };
-  run = listingTask .run;
-}
+abbrev pub refusedCheck : ℕ → Checked
+refusedCheck n = record { number = n; place = 0; total = 0; step = 0; fact = 0 }
 
 -- Delete (1, 1) to absent.
 abbrev pub deleteAbsent : Edit
@@ -106,29 +88,39 @@ sheet =
     reads [] 0 (refusedRead noEnd 0) ∷
     -- 2. The file above: 36 bytes, list 97, 224.
     reads listingFile 36 (acceptedRead listingTask) ∷
+    checks listingTask (openNeeds 2 3 1) ∷
     solves listingTask (found (97 ∷ 224 ∷ [])) ∷
     lists listingFile listingText ∷
     -- 3. The same, L = 1: 10. L = 2: list 97, 224.
     solves (limited 1) over ∷
     solves (limited 2) (found (97 ∷ 224 ∷ [])) ∷
     -- 4. No steps, goals within start: empty list.
-    solves (task 2 1 maxLimit [] [] [] 0b11 0b10 []) (found []) ∷
+    checks goalsAtStart (openNeeds 0 0 0) ∷
+    solves goalsAtStart (found []) ∷
     -- 5. No steps, goal 0, empty start: 9.
-    solves (task 1 1 maxLimit [] [] [] 0 0b1 []) hopeless ∷
+    checks goalOutOfReach (openNeeds 1 1 0) ∷
+    solves goalOutOfReach hopeless ∷
     -- 6. One action that adds and deletes fact 0, one step, goal 0, empty start: empty list.
-    solves (task 1 1 maxLimit [] (0b1 ∷ []) (0b1 ∷ []) 0 0b1 (0 ∷ [])) (found []) ∷
+    checks addsAndDeletes (openNeeds 0 0 0) ∷
+    solves addsAndDeletes (found []) ∷
     -- 7. One action that deletes 0, one step, start and goal 0: list 0 (32 works too, and comes later).
-    solves (task 1 1 maxLimit [] [] (0b1 ∷ []) 0b1 0b1 (0 ∷ [])) (found (0 ∷ [])) ∷
+    checks deletesTheGoal (openNeeds 1 2 0) ∷
+    solves deletesTheGoal (found (0 ∷ [])) ∷
     -- 8. F 64, A 1, the action needs 63, one step, empty start, L 1: list 6112.
-    solves (task maxFacts 1 1 (2 ^ 63 ∷ []) [] [] 0 0 (0 ∷ [])) (found (6112 ∷ [])) ∷
+    checks needsLastFact (openNeeds 1 1 63) ∷
+    solves needsLastFact (found (6112 ∷ [])) ∷
     -- 9. Case 2, edit delete (1, 1) to absent: list 224, row 2 untouched.
     edits listingTask deleteAbsent (found (224 ∷ [])) untouched ∷
     -- 10. Case 2's first 35 bytes: 1 at 35. All 36 bytes with a byte 00 appended: 8 at 36.
-    reads (take 35 listingFile) 35 (refusedRead noEnd 35) ∷
-    reads (listingFile ++ (0x00 ∷ [])) 37 (refusedRead bytesAfterEnd 36) ∷
-    lists (listingFile ++ (0x00 ∷ [])) refusedText ∷
-    -- 11. Case 2 with its last step 03: 5 at 33.
-    reads strayStep 36 (refusedRead numberOutside 33) ∷ []
+    reads withoutEnd 35 (refusedRead noEnd 35) ∷
+    reads byteAppended 37 (refusedRead bytesAfterEnd 36) ∷
+    lists byteAppended refusedText ∷
+    -- 11. Case 2 with its last step 03: 5 at 33. As a task it is not well formed.
+    reads strayStep 36 (refusedRead numberOutside 33) ∷
+    checks strayTask (refusedCheck notWellFormed) ∷
+    -- 12, which has no star, for the run check alone: six pairs, and seven.
+    checks (pairs 6) (openNeeds 6 2 0) ∷
+    checks (pairs 7) (openNeeds 7 2 0) ∷ []
 
 -- ---- the sources' own examples, facts and actions numbered in reading order
 

@@ -1,4 +1,3 @@
 -- What other crates cite of `runcheck`.
-pub mod BenchRows
 pub mod TallyLaws
 pub mod Valid

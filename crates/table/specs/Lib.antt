@@ -10,3 +10,4 @@ pub mod Repairs
 pub mod Answer
 pub mod Join
 pub mod Tasks
+pub mod Bench

@@ -4,7 +4,6 @@ pub mod ReaderLaws
 pub mod Unique
 pub mod Function
 pub mod Clear
-pub mod BenchRows
 pub mod Ranks
 pub mod Families
 pub mod Fitting

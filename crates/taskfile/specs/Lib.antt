@@ -4,3 +4,4 @@ pub mod Reading
 pub mod Records
 pub mod Computed
 pub mod Lengths
+pub mod BenchFiles
