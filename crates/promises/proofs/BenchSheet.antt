@@ -53,14 +53,9 @@ read-row s n r e computed = let a = subst (ReadsFile s) computed (reads-total s)
 check-row : (t : Task) (c : Checked) → checked t ≡ c → Holds (checks t c)
 check-row t c e = record { allowed = sym e; others = λ q a. a ∙ e }
 
--- By the verdicts of its single facts, whose join is this one.
-parts-row : (t : Task) (v whole : Verdict) → certified t (partsOf whole) ≡ true → joinVerdicts (partsOf whole) (t .table .facts) (t .table .limit) ≡ v
-    → Holds (solves t v)
-parts-row t v whole sound joins = certified-only t (partsOf whole) sound v joins
-
--- A list, or hopeless: the parts are its own.
+-- By the verdicts of its single facts, the parts of a list or hopeless each, whose join is this one.
 solve-row : (t : Task) (v : Verdict) → certified t (partsOf v) ≡ true → joinVerdicts (partsOf v) (t .table .facts) (t .table .limit) ≡ v → Holds (solves t v)
-solve-row t v = parts-row t v v
+solve-row t v sound joins = certified-only t (partsOf v) sound v joins
 
 -- By what reading the file, checking its run and solving it give.
 list-row : (file : List ℕ) (text : String) (r : TaskRead) (c : Checked) (o : Outcome) → readFile file ≡ r → checked (r .task) ≡ c
@@ -116,7 +111,7 @@ computed = (
       check-row listingTask _ refl and
       solve-row _ _ refl refl and
       list-row _ _ (acceptedRead listingTask) _ _ refl refl (solve-row listingTask pair refl refl answerRoom .allowed) listing-text and
-      parts-row _ _ pair refl refl and
+      certified-only _ (partsOf pair) refl _ refl and
       solve-row _ _ refl refl and
       check-row goalsAtStart _ refl and
       solve-row _ _ refl refl and

@@ -1,12 +1,10 @@
 -- What a certificate says: the verdict on the fact, and so the outcome of solving the task. Assumes nothing.
-use mathlib.Core.Bool.{Bool, true, false, not, _&&_, _||_, true≢false}
+use mathlib.Core.Bool.{Bool, true, false, not, _||_, true≢false}
 use mathlib.Core.List.{List, [], _∷_}
 use mathlib.Core.Logic.{_⊎_, inl, inr}
 use mathlib.Core.Path.{_≡_, refl, sym, ap, _∙_, subst}
 use Prim.Native.Nat.{ℕ, _+_, _-_, _*_, _<_}
 use native.Mathlib.Omega.{arith}
-use lib.Dec.{eqb}
-use lib.ListN.{length}
 use borrow.Author.Tests.{eqb-true, not-true}
 use Rattle.solve.specs.Solving.{told, Solves}
 use Rattle.solve.proofs.SolveLaws.{solve-unique}
@@ -19,9 +17,9 @@ use Rattle.table.specs.Answer.{Keeps, Verdict, found, over, hopeless, Within}
 use Rattle.table.specs.Join.{joinVerdicts}
 use Rattle.table.specs.Order.{isIn, _≼_}
 use Rattle.table.specs.Repairs.{permitted, repaired, factOf}
-use Rattle.table.specs.Sizes.{maxActions, maxSteps, maxRow, perFact}
+use Rattle.table.specs.Sizes.{maxRow, perFact}
 use Rattle.table.specs.Strips.{Cells, Course, stateAt, Right}
-use Rattle.table.specs.Tasks.{cellsOf, courseOf, everyBelow, formed, Shaped, WellFormed}
+use Rattle.table.specs.Tasks.{cellsOf, courseOf, everyBelow, formed, Shaped, WellFormed, WorksFor}
 use Rattle.table.specs.declared.Task.{Task}
 use Rattle.promises.specs.Certificates.{isRight, isRightWith, mends, certifies, certified}
 use Rattle.promises.specs.Determined.{Only}
@@ -38,29 +36,16 @@ implied true b h = h refl
 implied false b h = refl
 
 module _ (c : Cells) (r : Course) (f : ℕ) where
-  isRight-right : isRight c r f ≡ true → Right c r f
-  unfolding isRight
-  isRight-right h =
-      let p = both (everyBelow (λ i. not (c .needs (r .step i) f) || stateAt c r i f) (r .count)) (not (r .goal f) || stateAt c r (r .count) f) h in
-      record {
-        needed = λ i l. implies (c .needs (r .step i) f) (stateAt c r i f) (everyBelow-all _ (r .count) (p .0) i l);
-        wanted = implies (r .goal f) (stateAt c r (r .count) f) (p .1);
-      }
-
-  right-isRight : Right c r f → isRight c r f ≡ true
-  unfolding isRight
-  right-isRight h =
-      both-true (all-everyBelow _ (r .count) (λ i l. implied (c .needs (r .step i) f) (stateAt c r i f) (h .needed i l)))
-      (implied (r .goal f) (stateAt c r (r .count) f) (h .wanted))
-
-module _ (c : Cells) (r : Course) (f : ℕ) where
   with-right : (l : List ℕ) → isRightWith c r f l ≡ true → Right (repaired c (isIn l)) r f
-  unfolding isRightWith
-  with-right l h = isRight-right (repaired c (isIn l)) r f h
+  unfolding isRightWith isRight
+  with-right l h =
+      let d : Cells = repaired c (isIn l) in
+      let p = both (everyBelow (λ i. not (d .needs (r .step i) f) || stateAt d r i f) (r .count)) _ h in
+      record { needed = λ i low. implies _ _ (everyBelow-all _ (r .count) (p .0) i low); wanted = implies _ _ (p .1) }
 
   right-with : (l : List ℕ) → Right (repaired c (isIn l)) r f → isRightWith c r f l ≡ true
-  unfolding isRightWith
-  right-with l h = right-isRight (repaired c (isIn l)) r f h
+  unfolding isRightWith isRight
+  right-with l h = both-true (all-everyBelow _ (r .count) (λ i low. implied _ _ (h .needed i low))) (implied _ _ (h .wanted))
 
   -- ---- a list of one repair
 
@@ -119,18 +104,17 @@ module _ (c : Cells) (r : Course) (f : ℕ) where
     omega arith,
   )
   certifies-within (found (x ∷ [])) h =
-      let smaller : Bool = everyBelow (λ i. not (mends c r f (perFact * f + i))) (x - perFact * f) in
-      let p = both (mends c r f x && eqb (factOf x) f && not (isRightWith c r f [])) smaller h in
-      let q = both (mends c r f x && eqb (factOf x) f) (not (isRightWith c r f [])) (p .0) in
-      let s = both (mends c r f x) (eqb (factOf x) f) (q .0) in
-      let own = eqb-true (factOf x) f (s .1) in
+      let p = both _ _ h in
+      let q = both _ _ (p .0) in
+      let s = both _ _ (q .0) in
+      let own = eqb-true _ _ (s .1) in
       (record { member = one-keeps x (s .0) own; least = one-least x own (q .1) (p .1) }, omega arith)
   certifies-within (found (x ∷ y ∷ l)) h = absurd (true≢false (sym h))
   certifies-within over h = absurd (true≢false (sym h))
   certifies-within hopeless h = λ m k.
-      let p = both (eqb (r .count) 0 && r .goal f) (not (r .start f)) h in
-      let q = both (eqb (r .count) 0) (r .goal f) (p .0) in
-      let none = eqb-true (r .count) 0 (q .0) in
+      let p = both _ _ h in
+      let q = both _ _ (p .0) in
+      let none = eqb-true _ _ (q .0) in
       let ends = ap (λ (i : ℕ). stateAt (repaired c (isIn m)) r i f) (sym none) ∙ k .right .wanted (q .1) in
       true≢false (sym ends ∙ stateAt-first (repaired c (isIn m)) r f ∙ not-true (r .start f) (p .1))
 
@@ -140,43 +124,32 @@ module _ (t : Task) (v : ℕ → Verdict) (h : certified t v ≡ true) where
   certified-parts : Shaped t × (formed t ≡ true) × ((f : ℕ) → f < t .table .facts → certifies (cellsOf (t .table)) (courseOf (t .run)) f (v f) ≡ true)
   unfolding certified
   certified-parts =
-      let facts : Bool = everyBelow (λ f. certifies (cellsOf (t .table)) (courseOf (t .run)) f (v f)) (t .table .facts) in
-      let needs : Bool = eqb (length (t .table .needs)) maxActions in
-      let adds : Bool = eqb (length (t .table .adds)) maxActions in
-      let deletes : Bool = eqb (length (t .table .deletes)) maxActions in
-      let steps : Bool = eqb (length (t .run .steps)) maxSteps in
-      let p = both (needs && adds && (deletes && steps) && formed t) facts h in
-      let q = both (needs && adds && (deletes && steps)) (formed t) (p .0) in
-      let s = both (needs && adds) (deletes && steps) (q .0) in
-      let x = both needs adds (s .0) in
-      let y = both deletes steps (s .1) in (
+      let p = both _ _ h in
+      let q = both _ _ (p .0) in
+      let s = both _ _ (q .0) in
+      let x = both _ _ (s .0) in
+      let y = both _ _ (s .1) in (
         record {
-          needs = eqb-true (length (t .table .needs)) maxActions (x .0);
-          adds = eqb-true (length (t .table .adds)) maxActions (x .1);
-          deletes = eqb-true (length (t .table .deletes)) maxActions (y .0);
-          steps = eqb-true (length (t .run .steps)) maxSteps (y .1);
+          needs = eqb-true _ _ (x .0);
+          adds = eqb-true _ _ (x .1);
+          deletes = eqb-true _ _ (y .0);
+          steps = eqb-true _ _ (y .1);
         },
         q .1,
-        everyBelow-all (λ f. certifies (cellsOf (t .table)) (courseOf (t .run)) f (v f)) (t .table .facts) (p .1),
+        everyBelow-all _ _ (p .1),
       )
 
   pub certified-well : WellFormed t
   certified-well = let p = certified-parts in formed-well t (p .0) (p .1)
 
-  pub certified-solves : (room : List ℕ) → Solves t room (told (joinVerdicts v (t .table .facts) (t .table .limit)) room)
-  certified-solves room = record {
-    malformed = λ no. absurd (true≢false (sym (certified-parts .1) ∙ no));
-    verdict = λ _.
-        let w = certified-well in (
-          joinVerdicts v (t .table .facts) (t .table .limit),
-          join-for t w v maxRow (t .table .limit) (w .limit-high)
-              (λ f l. certifies-within (cellsOf (t .table)) (courseOf (t .run)) f (v f) (certified-parts .2 f l)),
-          refl,
-        );
-  }
-
-  -- So of whatever room is lent, where the joined verdicts are known.
-  pub certified-only : (w : Verdict) → joinVerdicts v (t .table .facts) (t .table .limit) ≡ w → (room : List ℕ) → Only (Solves t room) (told w room)
-  certified-only w e room =
-      let s = subst (λ (x : Verdict). Solves t room (told x room)) e (certified-solves room) in
-      record { allowed = s; others = λ q a. solve-unique t room q (told w room) a s }
+  -- The verdicts joined are the task's, told into whatever room is lent.
+  pub certified-only : (whole : Verdict) → joinVerdicts v (t .table .facts) (t .table .limit) ≡ whole → (room : List ℕ) → Only (Solves t room) (told whole room)
+  certified-only whole e room =
+      let w = certified-well in
+      let joined = join-for t w v maxRow (t .table .limit) (w .limit-high)
+      (λ f low. certifies-within (cellsOf (t .table)) (courseOf (t .run)) f (v f) (certified-parts .2 f low)) in
+      let solved : Solves t room (told whole room) = record {
+        malformed = λ no. absurd (true≢false (sym (certified-parts .1) ∙ no));
+        verdict = λ _. (whole, subst (Within (WorksFor t) (t .table .limit)) e joined, refl);
+      } in
+      record { allowed = solved; others = λ q a. solve-unique t room q (told whole room) a solved }

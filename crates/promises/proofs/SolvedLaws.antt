@@ -2,12 +2,12 @@
 use mathlib.Core.Bool.{Bool, true, false, cond}
 use mathlib.Core.List.{List}
 use mathlib.Core.Logic.{inl, inr, _↔_}
-use mathlib.Core.Path.{_≡_, refl, ap, subst}
+use mathlib.Core.Path.{_≡_, refl, sym, ap, _∙_, subst}
 use Prim.Native.Nat.{ℕ, _<_, _≤_}
 use native.Mathlib.Omega.{arith}
 use lib.Dec.{ltb}
 use lib.ListN.{length}
-use borrow.Author.Tests.{ltb-true, ltb-false}
+use borrow.Author.Tests.{lt-ltb, ltb-true}
 use Rattle.change.proofs.ApplyLaws.{applies-made, applies-unique, applied-well, applied-valid}
 use Rattle.change.proofs.PermittedLaws.{list-permitted}
 use Rattle.change.specs.Applying.{Applies}
@@ -28,25 +28,29 @@ use Rattle.table.specs.declared.Task.{Task}
 
 -- ---- which verdict a number tells
 
--- The verdict, and the outcome that tells it into the room.
-data Told (room : List ℕ) (o : Outcome) : Verdict → Type 0 where
-  fits : (l : List ℕ) → length l ≤ length room → o ≡ answered l room → Told room o (found l)
-  short : (l : List ℕ) → length room < length l → o ≡ refused roomTooShort room → Told room o (found l)
-  above : o ≡ refused overTheLimit room → Told room o over
-  none : o ≡ refused noListWorks room → Told room o hopeless
-
-told-as : (v : Verdict) (room : List ℕ) (o : Outcome) → o ≡ told v room → Told room o v
-unfolding told
-told-as (found l) room o = pick (ltb (length room) (length l)) refl
-  where
-    pick : (b : Bool) → ltb (length room) (length l) ≡ b → o ≡ cond {A = Outcome} b (refused roomTooShort room) (answered l room) → Told room o (found l)
-    pick true h e = short l (ltb-true (length room) (length l) h) e
-    pick false h e = fits l (ltb-false (length room) (length l) h) e
-told-as over room o = above
-told-as hopeless room o = none
+-- The number of the outcome, and the verdict that it tells into the room: of a known number only its own case is left.
+data Told (room : List ℕ) (o : Outcome) : ℕ → Verdict → Type 0 where
+  fits : (l : List ℕ) → o ≡ answered l room → Told room o accepted (found l)
+  short : (l : List ℕ) → length room < length l → Told room o roomTooShort (found l)
+  above : Told room o overTheLimit over
+  none : Told room o noListWorks hopeless
 
 abbrev number : Outcome → ℕ
 number o = o .reply .number
+
+told-as : (v : Verdict) (room : List ℕ) (o : Outcome) → o ≡ told v room → Told room o (number o) v
+unfolding told
+told-as v room o e = subst (λ (n : ℕ). Told room o n v) (sym (ap number e)) (pick v e)
+  where
+    sized : (l : List ℕ) (b : Bool) → ltb (length room) (length l) ≡ b → o ≡ cond {A = Outcome} b (refused roomTooShort room) (answered l room)
+        → Told room o (number (cond {A = Outcome} b (refused roomTooShort room) (answered l room))) (found l)
+    sized l true h e = short l (ltb-true (length room) (length l) h)
+    sized l false h e = fits l e
+
+    pick : (v : Verdict) → o ≡ told v room → Told room o (number (told v room)) v
+    pick (found l) e = sized l (ltb (length room) (length l)) refl e
+    pick over e = above
+    pick hopeless e = none
 
 -- ---- the first of the shortest, in demand 2's words
 
@@ -64,67 +68,54 @@ least-first {l = l} p m g e = pick (p .least m g)
 -- ---- the solve of a well-formed task
 
 module _ (t : Task) (w : WellFormed t) (room : List ℕ) (o : Outcome) (s : Solves t room o) where
-  -- its verdict, and how it is told
-  verdict-told : (v : Verdict) × Within (WorksFor t) (t .table .limit) v × Told room o v
-  verdict-told = let x = s .verdict (well-formed t w) in (x .0, x .1, told-as (x .0) room o (x .2))
+  abbrev Holding : Verdict → Type 0
+  Holding = Within (WorksFor t) (t .table .limit)
+
+  -- the verdict that holds where the number is n
+  verdict-of : (n : ℕ) → number o ≡ n → (v : Verdict) × Holding v × Told room o n v
+  verdict-of n h =
+      let x = s .verdict (well-formed t w) in
+      (x .0, x .1, subst (λ (m : ℕ). Told room o m (x .0)) h (told-as (x .0) room o (x .2)))
 
   -- a verdict that holds is the one told
-  is-told : (v : Verdict) → Within (WorksFor t) (t .table .limit) v → Told room o v
-  is-told v h = let x = verdict-told in subst (Told room o) (within-unique (WorksFor t) (t .table .limit) (x .0) v (x .1) h) (x .2)
+  is-told : (v : Verdict) → Holding v → o ≡ told v room
+  is-told v h =
+      let x = s .verdict (well-formed t w) in
+      x .2 ∙ ap (λ (u : Verdict). told u room) (within-unique (WorksFor t) (t .table .limit) (x .0) v (x .1) h)
 
-  -- The answer, within the limit, and in room or not.
+  -- 9 and 10
+  pub hopeless-exactly : (number o ≡ noListWorks) ↔ Holding hopeless
+  unfolding told
+  hopeless-exactly = (λ h. pick (verdict-of noListWorks h), λ p. ap number (is-told hopeless p))
+    where
+      pick : (v : Verdict) × Holding v × Told room o noListWorks v → Holding hopeless
+      pick (hopeless, p, none) = p
+
+  pub over-exactly : (number o ≡ overTheLimit) ↔ Holding over
+  unfolding told
+  over-exactly = (λ h. pick (verdict-of overTheLimit h), λ p. ap number (is-told over p))
+    where
+      pick : (v : Verdict) × Holding v × Told room o overTheLimit v → Holding over
+      pick (over, p, above) = p
+
+  -- The answer within the limit: 0 in room that is enough, else 11.
   pub accepted-answer : number o ≡ accepted → (l : List ℕ) × First (WorksFor t) l × (length l ≤ t .table .limit) × (o ≡ answered l room)
-  accepted-answer h = pick (verdict-told .0) (verdict-told .1) (verdict-told .2)
+  accepted-answer h = pick (verdict-of accepted h)
     where
-      pick : (v : Verdict) → Within (WorksFor t) (t .table .limit) v → Told room o v
+      pick : (v : Verdict) × Holding v × Told room o accepted v
           → (l : List ℕ) × First (WorksFor t) l × (length l ≤ t .table .limit) × (o ≡ answered l room)
-      pick (found l) p (fits _ _ e) = (l, p .0, p .1, e)
-      pick (found l) p (short _ _ e) = absurd (omega (arith, ap number e))
-      pick over p (above e) = absurd (omega (arith, ap number e))
-      pick hopeless p (none e) = absurd (omega (arith, ap number e))
+      pick (found l, p, fits _ e) = (l, p .0, p .1, e)
 
-  -- 10
-  pub over-exactly : (number o ≡ overTheLimit) ↔ Within (WorksFor t) (t .table .limit) over
-  over-exactly = (λ h. pick h (verdict-told .0) (verdict-told .1) (verdict-told .2), λ p. ten (is-told over p))
-    where
-      pick : number o ≡ overTheLimit → (v : Verdict) → Within (WorksFor t) (t .table .limit) v → Told room o v → Within (WorksFor t) (t .table .limit) over
-      pick h (found l) p (fits _ _ e) = absurd (omega (arith, ap number e))
-      pick h (found l) p (short _ _ e) = absurd (omega (arith, ap number e))
-      pick h over p (above e) = p
-      pick h hopeless p (none e) = absurd (omega (arith, ap number e))
-
-      ten : Told room o over → number o ≡ overTheLimit
-      ten (above e) = ap number e
-
-  -- 9
-  pub hopeless-exactly : (number o ≡ noListWorks) ↔ Within (WorksFor t) (t .table .limit) hopeless
-  hopeless-exactly = (λ h. pick h (verdict-told .0) (verdict-told .1) (verdict-told .2), λ p. nine (is-told hopeless p))
-    where
-      pick : number o ≡ noListWorks → (v : Verdict) → Within (WorksFor t) (t .table .limit) v → Told room o v → Within (WorksFor t) (t .table .limit) hopeless
-      pick h (found l) p (fits _ _ e) = absurd (omega (arith, ap number e))
-      pick h (found l) p (short _ _ e) = absurd (omega (arith, ap number e))
-      pick h over p (above e) = absurd (omega (arith, ap number e))
-      pick h hopeless p (none e) = p
-
-      nine : Told room o hopeless → number o ≡ noListWorks
-      nine (none e) = ap number e
-
-  -- 11
   pub short-exactly : (number o ≡ roomTooShort) ↔ ((l : List ℕ) × First (WorksFor t) l × (length l ≤ t .table .limit) × (length room < length l))
-  short-exactly = (λ h. pick h (verdict-told .0) (verdict-told .1) (verdict-told .2), λ p. eleven p (is-told (found (p .0)) (p .1, p .2)))
+  unfolding told
+  short-exactly = (
+    λ h. pick (verdict-of roomTooShort h),
+    λ p. ap number (is-told (found (p .0)) (p .1, p .2)) ∙ rw (lt-ltb (length room) (length (p .0)) (p .3)),
+  )
     where
-      Short : Type 0
-      Short = (l : List ℕ) × First (WorksFor t) l × (length l ≤ t .table .limit) × (length room < length l)
-
-      pick : number o ≡ roomTooShort → (v : Verdict) → Within (WorksFor t) (t .table .limit) v → Told room o v → Short
-      pick h (found l) p (fits _ _ e) = absurd (omega (arith, ap number e))
-      pick h (found l) p (short _ low e) = (l, p .0, p .1, low)
-      pick h over p (above e) = absurd (omega (arith, ap number e))
-      pick h hopeless p (none e) = absurd (omega (arith, ap number e))
-
-      eleven : (p : Short) → Told room o (found (p .0)) → number o ≡ roomTooShort
-      eleven p (fits _ low e) = absurd (omega (arith, p .3))
-      eleven p (short _ low e) = ap number e
+      pick : (v : Verdict) × Holding v × Told room o roomTooShort v
+          → (l : List ℕ) × First (WorksFor t) l × (length l ≤ t .table .limit) × (length room < length l)
+      pick (found l, p, short _ low) = (l, p .0, p .1, low)
 
 -- ---- the list applied
 
