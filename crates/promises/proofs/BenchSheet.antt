@@ -110,7 +110,7 @@ computed = (
       read-row _ _ _ refl refl and
       check-row listingTask _ refl and
       solve-row _ _ refl refl and
-      list-row _ _ (acceptedRead listingTask) _ _ refl refl (solve-row listingTask pair refl refl answerRoom .allowed) listing-text and
+      list-row _ listingText (acceptedRead listingTask) _ _ refl refl (solve-row listingTask pair refl refl answerRoom .allowed) listing-text and
       certified-only _ (partsOf pair) refl _ refl and
       solve-row _ _ refl refl and
       check-row goalsAtStart _ refl and
@@ -126,7 +126,7 @@ computed = (
       edit-row listingTask deleteAbsent _ untouched (certified-well listingTask (partsOf pair) refl) refl refl refl refl (solve-row _ _ refl refl) and
       read-row _ _ _ refl refl and
       read-row _ _ _ refl refl and
-      list-row _ _ (refusedRead bytesAfterEnd 36) _ (refused notWellFormed answerRoom) refl refl
+      list-row _ refusedText (refusedRead bytesAfterEnd 36) _ (refused notWellFormed answerRoom) refl refl
       (solves-malformed noTask answerRoom _ refl refl) (refused-text _ _) and
       read-row _ _ _ refl refl and
       check-row strayTask _ refl and

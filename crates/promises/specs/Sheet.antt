@@ -8,6 +8,7 @@ use Prim.Native.String.{String}
 use lib.ListN.{length}
 use Rattle.change.specs.declared.Cell.the-variants.{Delete}
 use Rattle.change.specs.declared.Edit.{Edit}
+use Rattle.listing.specs.Ascii.{bytesOf}
 use Rattle.listing.specs.Listing.{ListsInto, given}
 use Rattle.runcheck.specs.OpenNeeds.{checked}
 use Rattle.runcheck.specs.declared.Checked.{Checked}
@@ -24,7 +25,6 @@ use Rattle.table.specs.declared.Task.{Task}
 use Rattle.taskfile.specs.BenchFiles.{listingFile, withoutEnd, byteAppended, strayStep}
 use Rattle.taskfile.specs.Reading.{ReadsFile, refusedRead, acceptedRead}
 use Rattle.taskfile.specs.declared.TaskRead.{TaskRead}
-use Rattle.listing.specs.Ascii.{bytesOf}
 use Rattle.promises.specs.Determined.{Only}
 
 infixr 20 _and_
