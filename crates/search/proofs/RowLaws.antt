@@ -13,13 +13,14 @@ use Rattle.table.specs.Sizes.{maxRow, perFact, unused}
 use Rattle.table.specs.Tasks.{WellFormed, KeepsFor}
 use Rattle.table.specs.declared.Task.{Task}
 use Rattle.table.proofs.AnswerLaws.{first-same}
-use Rattle.table.proofs.GatherLaws.{gather-part, gather-step}
+use Rattle.table.proofs.GatherLaws.{gather-none, gather-part, gather-step}
 use Rattle.table.proofs.JoinLaws.{keepsFor-outside}
 use Rattle.search.specs.Choices.{inChoice, listOf, codeNumber}
 use Rattle.search.specs.Columns.{KeepsIn}
 use Rattle.search.specs.Gaps.{Gap}
 use Rattle.search.specs.Rows.{rowOf, rowWith, rowOver, rowHopeless, RightRow}
 use Rattle.search.specs.Searching.{Shortest}
+use Rattle.search.specs.Trying.{NextIn}
 use Rattle.search.specs.Views.{Shows, Fullest}
 use Rattle.search.specs.declared.Choice.{Choice}
 use Rattle.search.specs.declared.Column.{Column}
@@ -42,13 +43,32 @@ module _ (f : ℕ) (s : Choice) where
   abbrev pub rowBelow : ℕ → List ℕ
   rowBelow i = rowOf (found (codes (inChoice s) f i))
 
-  pub below-none : (row : List ℕ) → row ≡ (0 ∷ replicate maxRow unused) → row ≡ rowBelow 0
-  unfolding rowOf codes gather
-  below-none row e = e
+  codes-chosen : (i : ℕ) → inChoice s i ≡ true → codes (inChoice s) f (i + 1) ≡ codes (inChoice s) f i ++ (codeNumber f i ∷ [])
+  unfolding codes
+  codes-chosen i chosen = gather-step (λ code. piece (inChoice s code) (codeNumber f code ∷ [])) i ∙ rw chosen
 
-  pub below-first : (i : ℕ) (row : List ℕ) → row ≡ rowBelow i → getD row 0 0 ≡ length (codes (inChoice s) f i)
+  bare-below : (row : List ℕ) → row ≡ (0 ∷ replicate maxRow unused) → row ≡ rowBelow 0
+  unfolding rowOf codes gather
+  bare-below row e = e
+
+  -- No chosen code between: the same row.
+  passed : (i k : ℕ) → NextIn s i k → rowBelow k ≡ rowBelow i
+  unfolding codes
+  passed i k next = ap (λ (l : List ℕ). rowOf (found l)) none
+    where
+      none : codes (inChoice s) f k ≡ codes (inChoice s) f i
+      none =
+          subst (λ n. codes (inChoice s) f n ≡ codes (inChoice s) f i) (omega (arith, next .after))
+          (gather-none (λ code. piece (inChoice s code) (codeNumber f code ∷ [])) i (k - i)
+          (λ code l h. ap (λ b. piece b (codeNumber f code ∷ [])) (next .absent code (omega (arith, next .after)) l)))
+
+  -- Up to the first chosen code the row is bare.
+  pub below-first : (row : List ℕ) (k : ℕ) → row ≡ (0 ∷ replicate maxRow unused) → NextIn s 0 k → row ≡ rowBelow k
+  below-first row k e next = bare-below row e ∙ sym (passed 0 k next)
+
+  announced : (i : ℕ) (row : List ℕ) → row ≡ rowBelow i → getD row 0 0 ≡ length (codes (inChoice s) f i)
   unfolding rowOf
-  below-first i row e = rw e
+  announced i row e = rw e
 
   pub below-fits : (i : ℕ) (row : List ℕ) → length (listOf f s) ≤ maxRow → i < perFact → row ≡ rowBelow i → inChoice s i ≡ true
       → getD row 0 0 < maxRow
@@ -56,20 +76,21 @@ module _ (f : ℕ) (s : Choice) where
   below-fits i row short h e chosen =
       let one : weight (inChoice s i) ≡ 1 = ap weight chosen in
       let all : length (codes (inChoice s) f perFact) ≤ maxRow = short in
-      omega (arith, below-first i row e, codes-length (inChoice s) f i, gather-part (λ code. piece (inChoice s code) (codeNumber f code ∷ [])) (suc i) perFact (omega arith))
+      omega (arith, announced i row e, codes-length (inChoice s) f i, gather-part (λ code. piece (inChoice s code) (codeNumber f code ∷ [])) (suc i) perFact (omega arith))
 
-  pub below-more : (i : ℕ) (row next : List ℕ) → row ≡ rowBelow i → (inChoice s i ≡ true → getD row 0 0 < maxRow)
-      → next ≡ cond (inChoice s i) (rowWith row (codeNumber f i)) row → next ≡ rowBelow (i + 1)
-  unfolding codes
-  below-more i row next e fits made =
-      go (inChoice s i) refl ∙
-      ap (λ (l : List ℕ). rowOf (found l)) (sym (gather-step (λ code. piece (inChoice s code) (codeNumber f code ∷ [])) i))
+  -- One chosen code more, and on to the next.
+  pub below-more : (i k : ℕ) (row more : List ℕ) → row ≡ rowBelow i → inChoice s i ≡ true → getD row 0 0 < maxRow
+      → more ≡ rowWith row (codeNumber f i) → NextIn s (i + 1) k → more ≡ rowBelow k
+  below-more i k row more e chosen fits made next = made ∙ grown ∙ one-more ∙ sym (passed (i + 1) k next)
     where
-      go : (b : Bool) → inChoice s i ≡ b → next ≡ rowOf (found (codes (inChoice s) f i ++ piece (inChoice s i) (codeNumber f i ∷ [])))
-      go true chosen =
-          let room : length (codes (inChoice s) f i) < maxRow = omega (arith, below-first i row e, fits chosen) in
-          made ∙ rw (chosen, e) (row-grows (codes (inChoice s) f i) (codeNumber f i) room)
-      go false left = made ∙ rw (left, e, append-nil)
+      room : length (codes (inChoice s) f i) < maxRow
+      room = omega (arith, announced i row e, fits)
+
+      grown : rowWith row (codeNumber f i) ≡ rowOf (found (codes (inChoice s) f i ++ (codeNumber f i ∷ [])))
+      grown = rw e (row-grows (codes (inChoice s) f i) (codeNumber f i) room)
+
+      one-more : rowOf (found (codes (inChoice s) f i ++ (codeNumber f i ∷ []))) ≡ rowBelow (i + 1)
+      one-more = ap (λ (l : List ℕ). rowOf (found l)) (sym (codes-chosen i chosen))
 
   pub below-end : (i : ℕ) (row : List ℕ) → i ≡ perFact → row ≡ rowBelow i → row ≡ rowOf (found (listOf f s))
   unfolding listOf codes

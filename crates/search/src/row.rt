@@ -8,16 +8,15 @@ use table::ROW_PLACES;
 use table::Task;
 use table::UNUSED;
 use table::repair::Repair;
-ghost use mathlib.Core.Bool.{cond, true};
 ghost use mathlib.Core.List.{_∷_};
 ghost use mathlib.Core.Path.{_≡_};
 ghost use Prim.Native.Nat.{_<_, _≤_};
 ghost use lib.ListN.{length, getD, replicate};
 ghost use Rattle.table.specs.Answer.{found};
-ghost use Rattle.table.specs.Sizes.{maxFacts, maxRow, perFact, unused};
+ghost use Rattle.table.specs.Sizes.{maxFacts, maxRow, unused};
 ghost use Rattle.table.specs.Tasks.{WellFormed};
-ghost use Rattle.search.specs.Choices.{inChoice, listOf, codeNumber};
-ghost use Rattle.search.specs.Rows.{rowOf, rowWith, rowOver, rowHopeless, RightRow};
+ghost use Rattle.search.specs.Choices.{listOf};
+ghost use Rattle.search.specs.Rows.{rowOf, rowWith, RightRow};
 
 // First numbers that announce no list.
 pub const OVER: usize = 7;
@@ -53,29 +52,17 @@ fn row_with(row: Filling, number: u16) -> Filling
     next
 }
 
-// The row with the repair of this code, if it is chosen.
-fn row_with_code(row: Filling, f: usize, s: Choice, code: usize) -> Filling
-    requires { ⌜ f < maxFacts ⌝ }
-    requires { ⌜ code < perFact ⌝ }
-    requires { ⌜ (inChoice s code ≡ true → getD (row .places) 0 0 < maxRow) ⌝ }
-    ensures { λ r. ⌜ r .places ≡ cond (inChoice s code) (rowWith (row .places) (codeNumber f code)) (row .places) ⌝ }
-{
-    if choices::in_choice(s, code) {
-        row_with(row, (Repair::PER_FACT * f + code) as u16)
-    } else {
-        row
-    }
-}
-
-// The row of a choice whose list it has room for.
+// The row of a choice whose list it has room for: its repairs in order.
 fn row_of_choice(f: usize, s: Choice) -> Filling
     requires { ⌜ f < maxFacts ⌝ }
     requires { ⌜ length (listOf f s) ≤ maxRow ⌝ }
     ensures { λ r. ⌜ r .places ≡ rowOf (found (listOf f s)) ⌝ }
 {
     let mut row = bare_row(0);
-    for code in 0..Repair::PER_FACT {
-        row = row_with_code(row, f, s, code);
+    let mut code = choices::next_in(s, 0);
+    while code < Repair::PER_FACT {
+        row = row_with(row, (Repair::PER_FACT * f + code) as u16);
+        code = choices::next_in(s, code + 1);
     }
     row
 }

@@ -1,15 +1,17 @@
 -- `search::row::row_of_choice` meets its contract: the row has the chosen codes passed. Assumes nothing.
+use mathlib.Core.Bool.{true}
 use mathlib.Core.Path.{_≡_}
-use Prim.Native.Nat.{_≤_, _-_}
+use Prim.Native.Nat.{_<_, _≤_, _-_}
 use native.Mathlib.Omega.{arith}
 use borrow.Author.Needs.{needs}
 use Rattle.table.specs.Sizes.{perFact}
-use Rattle.search.proofs.RowLaws.{rowBelow, below-none, below-fits, below-more, below-end}
+use Rattle.search.specs.Choices.{inChoice}
+use Rattle.search.proofs.RowLaws.{rowBelow, below-first, below-fits, below-more, below-end}
 use Rattle.search.proofs.row.row_of_choice.Statement.{statement}
 use Rattle.search.proofs.row.row_of_choice.Tie as tie
 
 abbrev Inv-loop : tie.InvT-loop
-Inv-loop f s row₀ code₀ row code = (code ≤ perFact) × (row .places ≡ rowBelow f s code)
+Inv-loop f s row₀ code₀ row code = (code ≤ perFact) × (code < perFact → inChoice s code ≡ true) × (row .places ≡ rowBelow f s code)
 
 abbrev μ-loop : tie.MeasureT-loop
 μ-loop f s row₀ code₀ row code = perFact - code
@@ -17,41 +19,58 @@ abbrev μ-loop : tie.MeasureT-loop
 bare-row-requires : tie.Need-bare-row-requires Inv-loop μ-loop
 bare-row-requires c κs = search needs
 
-loop-holds : tie.Need-loop-holds Inv-loop μ-loop
-loop-holds c = (omega arith, below-none (c .before .args .f) (c .before .args .s) (c .bare-row .result .places) (c .bare-row .ensures))
+next-in-requires : tie.Need-next-in-requires Inv-loop μ-loop
+next-in-requires c κs = omega arith
 
-row-with-code-requires : tie.Need-row-with-code-requires Inv-loop μ-loop
-row-with-code-requires c κs =
-    let at = c .before .before .before in (
-      at .pre .0,
-      (
-        omega arith,
-        λ chosen. below-fits (at .args .f) (at .args .s) (c .before .loop .code) (c .before .loop .row .places) (at .pre .1) (omega arith)
-            (c .before .loop .inv .1) chosen,
-      ),
+loop-holds : tie.Need-loop-holds Inv-loop μ-loop
+loop-holds c =
+    let a = c .before .before .args in (
+      c .next-in .ensures .within,
+      c .next-in .ensures .present,
+      below-first (a .f) (a .s) (c .before .bare-row .result .places) (c .next-in .result) (c .before .bare-row .ensures) (c .next-in .ensures),
     )
 
-add-code : tie.Need-add-code Inv-loop μ-loop
-add-code c = omega arith
+mul-row-with : tie.Need-mul-row-with Inv-loop μ-loop
+mul-row-with c = search needs
+
+add-row-with : tie.Need-add-row-with Inv-loop μ-loop
+add-row-with c = search needs
+
+cast-row-with : tie.Need-cast-row-with Inv-loop μ-loop
+cast-row-with c = search needs
+
+row-with-requires : tie.Need-row-with-requires Inv-loop μ-loop
+row-with-requires c κs =
+    let at = c .before .before .before .before in
+    let here = c .before .loop in
+    below-fits (at .args .f) (at .args .s) (here .code) (here .row .places) (at .pre .1) (c .loop-test .taken) (here .inv .2)
+    (here .inv .1 (c .loop-test .taken))
+
+add-next-in : tie.Need-add-next-in Inv-loop μ-loop
+add-next-in c = omega arith
+
+next-in-requires-2 : tie.Need-next-in-requires-2 Inv-loop μ-loop
+next-in-requires-2 c κs = omega arith
 
 loop-less : tie.Need-loop-less Inv-loop μ-loop
-loop-less c = omega arith
+loop-less c = omega (arith, c .next-in2 .ensures .after)
 
 loop-again : tie.Need-loop-again Inv-loop μ-loop
 loop-again c =
-    let at = c .before .before .before .before in
-    let row = c .before .before .loop .row .places in
-    let i = c .before .before .loop .code in
-    let inv = c .before .before .loop .inv .1 in (
-      omega arith,
-      below-more (at .args .f) (at .args .s) i row (c .row-with-code .result .places) inv
-          (λ chosen. below-fits (at .args .f) (at .args .s) i row (at .pre .1) (omega arith) inv chosen) (c .row-with-code .ensures),
+    let at = c .before .before .before .before .before .before in
+    let here = c .before .before .before .loop in
+    let below = c .before .before .loop-test .taken in
+    let fits = below-fits (at .args .f) (at .args .s) (here .code) (here .row .places) (at .pre .1) below (here .inv .2) (here .inv .1 below) in (
+      c .next-in2 .ensures .within,
+      c .next-in2 .ensures .present,
+      below-more (at .args .f) (at .args .s) (here .code) (c .next-in2 .result) (here .row .places) (c .before .row-with .result .places)
+          (here .inv .2) (here .inv .1 below) fits (c .before .row-with .ensures) (c .next-in2 .ensures),
     )
 
 returns : tie.Need-returns Inv-loop μ-loop
 returns c =
-    let at = c .before .before .before in
-    below-end (at .args .f) (at .args .s) (c .before .loop .code) (c .before .loop .row .places) (omega arith) (c .before .loop .inv .1)
+    let at = c .before .before .before .before in
+    below-end (at .args .f) (at .args .s) (c .before .loop .code) (c .before .loop .row .places) (omega arith) (c .before .loop .inv .2)
 
 pub row-of-choice-spec : {M : Type 1} → statement M
 row-of-choice-spec =
@@ -60,9 +79,14 @@ row-of-choice-spec =
     Inv-loop
     μ-loop
     bare-row-requires
+    next-in-requires
     loop-holds
-    row-with-code-requires
-    add-code
+    mul-row-with
+    add-row-with
+    cast-row-with
+    row-with-requires
+    add-next-in
+    next-in-requires-2
     loop-less
     loop-again
     returns)
