@@ -9,7 +9,8 @@ use Rattle.runcheck.specs.OpenNeeds.{checked}
 use Rattle.session.specs.Calls.{Opens, Edits, listed}
 use Rattle.session.specs.Replays.{editOf}
 use Rattle.session.specs.declared.Edited.{Edited}
-use Rattle.solve.specs.Solving.{Outcome, Solves}
+use Rattle.solve.specs.Solving.{Solves}
+use Rattle.table.specs.Outcomes.{Outcome}
 use Rattle.table.specs.declared.Reply.{Reply}
 use Rattle.taskfile.specs.Reading.{ReadsFile}
 use Rattle.taskfile.specs.Records.{recordAt}
@@ -27,6 +28,10 @@ abbrev pub AnswersReply : List ℕ → List ℕ → (Reply → Type 0) → List 
 AnswersReply room after Replies =
     Answers replyLength (after ≡ room) (λ words. (y : Reply) × Replies y × (words ≡ replyWords y))
 
+-- The same, where the reply and the room afterwards are one outcome.
+abbrev pub AnswersOutcome : List ℕ → List ℕ → (Outcome → Type 0) → List ℕ → List ℕ → ℕ → Type 0
+AnswersOutcome room after Gives = AnswersReply room after (λ y. Gives (record { reply = y; room = after }))
+
 unfoldable pub HandsRecord : List ℕ → ℕ → List ℕ → List ℕ → ℕ → Type 0
 HandsRecord file at = Answers recordLength Nothing (λ words. words ≡ recordWords (recordAt file at))
 
@@ -36,7 +41,7 @@ ReadsTask file =
     (λ words. (y : TaskRead) × ReadsFile file y × (words ≡ taskAnswer (y .number) (y .place) (y .task)))
 
 unfoldable pub WritesTask : List ℕ → List ℕ → List ℕ → List ℕ → List ℕ → ℕ → Type 0
-WritesTask ws room after = AnswersReply room after (λ y. (y, after) ≡ written (taskIn ws) room)
+WritesTask ws room after = AnswersOutcome room after (λ o. o ≡ written (taskIn ws) room)
 
 unfoldable pub ChecksRun : List ℕ → List ℕ → List ℕ → ℕ → Type 0
 ChecksRun ws = Answers checkedLength Nothing (λ words. words ≡ checkedWords (checked (taskIn ws)))
@@ -47,7 +52,7 @@ AppliesList ws list =
     (λ words. (y : Applied) × Applies (taskIn ws) list y × (words ≡ taskAnswer (y .number) (y .place) (y .task)))
 
 unfoldable pub SolvesTask : List ℕ → List ℕ → List ℕ → List ℕ → List ℕ → ℕ → Type 0
-SolvesTask ws room after = AnswersReply room after (λ y. Solves (taskIn ws) room (record { reply = y; room = after }))
+SolvesTask ws room after = AnswersOutcome room after (Solves (taskIn ws) room)
 
 unfoldable pub OpensSession : List ℕ → List ℕ → List ℕ → List ℕ → List ℕ → ℕ → Type 0
 OpensSession ws table after = AnswersReply table after (λ y. Opens (taskIn ws) table y after)
@@ -60,9 +65,7 @@ EditsSession ws kind action fact present table after =
     (words ≡ taskAnswer (y .number) (y .place) (y .task)))
 
 unfoldable pub ListsSession : List ℕ → List ℕ → List ℕ → List ℕ → List ℕ → List ℕ → ℕ → Type 0
-ListsSession ws table room after =
-    AnswersReply room after
-    (λ y. _≡_ {A = Outcome} (record { reply = y; room = after }) (listed (taskIn ws) table room))
+ListsSession ws table room after = AnswersOutcome room after (λ o. o ≡ listed (taskIn ws) table room)
 
 unfoldable pub ListsInput : List ℕ → List ℕ → List ℕ → List ℕ → List ℕ → ℕ → Type 0
-ListsInput input room after = AnswersReply room after (λ y. ListsInto input room (record { reply = y; room = after }))
+ListsInput input room after = AnswersOutcome room after (ListsInto input room)

@@ -4,16 +4,17 @@ use mathlib.Core.List.{List, [], _∷_}
 use mathlib.Core.Path.{_≡_, sym, ap, _∙_, subst}
 use Prim.Native.Nat.{ℕ, zero, suc, _≤_, zero-le}
 use native.Mathlib.Omega.{arith}
-use borrow.Author.Tests.{le-ltb}
+use Rattle.table.proofs.OutcomeLaws.{given-fits, given-within}
 use lib.ListN.{length, take}
 use Rattle.runcheck.specs.OpenNeeds.{checked}
-use Rattle.solve.specs.Solving.{Outcome, answered, Solves}
+use Rattle.solve.specs.Solving.{Solves}
+use Rattle.table.specs.Outcomes.{Outcome, answered, given}
 use Rattle.solve.proofs.SolveLaws.{solve-unique}
 use Rattle.taskfile.specs.declared.TaskRead.{TaskRead}
 use Rattle.taskfile.proofs.Unique.{reads-unique}
 use Rattle.listing.specs.Text.{textOf, longestText}
-use Rattle.listing.specs.Listing.{answerRoom, Lists, given, ListsInto}
-use Rattle.listing.proofs.TextLaws.{solved-fits, given-within}
+use Rattle.listing.specs.Listing.{answerRoom, Lists, ListsInto}
+use Rattle.listing.proofs.TextLaws.{solved-fits}
 use Rattle.listing.proofs.TextLength.{text-most}
 
 pub text-unique : {input text other : List ℕ} → Lists input text → Lists input other → text ≡ other
@@ -43,10 +44,9 @@ text-fits a =
 -- In room for the longest text the listing is never refused.
 pub always-listed : {input room : List ℕ} {o : Outcome} → longestText ≤ length room → (a : ListsInto input room o)
     → o ≡ answered (a .text) room
-unfolding given
 always-listed {input} {room} h a =
     let fits = text-fits (a .lists) in
-    a .outcome ∙ rw (le-ltb (length room) (length (a .text)) (omega arith))
+    a .outcome ∙ given-fits (a .text) room (omega arith)
 
 -- What is told to have been written lies in the room.
 pub listed-within : {input room : List ℕ} {o : Outcome} → ListsInto input room o → o .reply .length ≤ length room

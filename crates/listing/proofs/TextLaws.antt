@@ -1,26 +1,26 @@
 -- The text by cases, and what is told of it into lent room. Assumes nothing.
-use mathlib.Core.Bool.{Bool, true, false, cond}
+use mathlib.Core.Bool.{Bool, true, false}
 use mathlib.Core.List.{List}
 use mathlib.Core.Path.{_≡_, refl, ap}
 use Prim.Native.Nat.{ℕ, _≤_, _<_}
 use native.Mathlib.Omega.{arith}
-use borrow.Author.Tests.{eq-eqb, ne-eqb, lt-ltb, le-ltb, ltb-false}
-use lib.Dec.{ltb}
+use borrow.Author.Tests.{eq-eqb, ne-eqb}
 use lib.ListN.{length, take}
 use Rattle.table.specs.Answer.{Verdict, found, over, hopeless}
-use Rattle.table.specs.Refusals.{accepted, roomTooShort}
+use Rattle.table.specs.Refusals.{accepted}
 use Rattle.table.specs.Tasks.{formed}
-use Rattle.table.specs.declared.Reply.{Reply}
 use Rattle.table.specs.declared.Task.{Task}
 use Rattle.runcheck.specs.OpenNeeds.{checked}
 use Rattle.runcheck.specs.declared.Checked.{Checked}
-use Rattle.solve.specs.Solving.{Outcome, refused, answered, told, Solves}
+use Rattle.solve.specs.Solving.{told, Solves}
+use Rattle.table.proofs.OutcomeLaws.{given-whole, given-within}
+use Rattle.table.specs.Outcomes.{Outcome, given}
 use Rattle.taskfile.specs.Reading.{ReadsFile}
 use Rattle.taskfile.specs.declared.TaskRead.{TaskRead}
 use Rattle.room.specs.Placing.{Placed}
 use Rattle.room.proofs.PlacingLaws.{placed-more, placed-whole}
 use Rattle.listing.specs.Text.{refusedLine, firstLines, answerLines, readText, textOf}
-use Rattle.listing.specs.Listing.{answerRoom, given, ListsInto}
+use Rattle.listing.specs.Listing.{answerRoom, ListsInto}
 
 -- ---- the text as it is placed: a refused file, a refused solve, an answer
 
@@ -43,32 +43,14 @@ module _ (r : TaskRead) (c : Checked) (o : Outcome) {a b : List ℕ} {next : ℕ
 
 -- ---- the text told
 
-module _ (text room : List ℕ) where
-  pub told-short : (r : Reply) → r ≡ record { number = roomTooShort; place = 0; length = 0 } → length room < length text
-      → _≡_ {A = Outcome} (record { reply = r; room = room }) (given text room)
-  unfolding given
-  told-short r e h = rw (lt-ltb (length room) (length text) h, e)
+-- What was placed whole is given.
+pub told-whole : (text room after : List ℕ) (next : ℕ) → Placed room after 0 next text → length text ≤ length room
+    → _≡_ {A = Outcome} (record { reply = record { number = accepted; place = 0; length = next }; room = after }) (given text room)
+told-whole text room after next p h = given-whole text room after next h (omega (arith, p .next-is)) (placed-whole p h)
 
-  pub told-whole : (after : List ℕ) (next : ℕ) → Placed room after 0 next text → length text ≤ length room
-      → _≡_ {A = Outcome} (record { reply = record { number = accepted; place = 0; length = next }; room = after }) (given text room)
-  unfolding given
-  told-whole after next p h =
-      let e : next ≡ length text = omega (arith, p .next-is) in
-      rw (le-ltb (length room) (length text) h, e, placed-whole p h)
-
--- ---- what is told to have been written lies in the room
-
-pub given-within : (text room : List ℕ) → given text room .reply .length ≤ length room
-unfolding given
-given-within text room = fits (ltb (length room) (length text)) refl
-  where
-    fits : (b : Bool) → ltb (length room) (length text) ≡ b
-        → cond {A = Outcome} b (refused roomTooShort room) (answered text room) .reply .length ≤ length room
-    fits true e = omega arith
-    fits false e = omega (arith, ltb-false (length room) (length text) e)
-
+-- What is told to have been written lies in the room.
 pub solved-fits : {t : Task} {room : List ℕ} {o : Outcome} → Solves t room o → o .reply .length ≤ length room
-unfolding told given
+unfolding told
 solved-fits {t} {room} {o} s = pick (formed t) refl
   where
     tells : (v : Verdict) → told v room .reply .length ≤ length room

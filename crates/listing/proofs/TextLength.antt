@@ -10,7 +10,7 @@ use Rattle.table.specs.Repairs.{dropDelete, addEffect, kindOf, actionOf, factOf
 use Rattle.table.specs.Sizes.{maxLimit}
 use Rattle.table.specs.declared.Task.{Task}
 use Rattle.runcheck.specs.declared.Checked.{Checked}
-use Rattle.solve.specs.Solving.{Outcome}
+use Rattle.table.specs.Outcomes.{Outcome}
 use Rattle.taskfile.specs.declared.TaskRead.{TaskRead}
 use Rattle.listing.specs.Text.{lineMost, longestText, each, line, taskWord, openWord, setWord, dropDeleteWord, addEffectWord, dropNeedWord, endWord, refusedWord, taskLine, openLine, setLine, repairLine, endLine, refusedLine, firstLines, answerLines, readText, textOf}
 use Rattle.listing.proofs.EachLaws.{each-most}

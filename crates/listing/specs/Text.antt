@@ -9,7 +9,7 @@ use Rattle.table.specs.Repairs.{byKind, kindOf, actionOf, factOf}
 use Rattle.table.specs.Sizes.{maxLimit}
 use Rattle.table.specs.declared.Task.{Task}
 use Rattle.runcheck.specs.declared.Checked.{Checked}
-use Rattle.solve.specs.Solving.{Outcome}
+use Rattle.table.specs.Outcomes.{Outcome}
 use Rattle.taskfile.specs.declared.TaskRead.{TaskRead}
 use Rattle.listing.specs.Ascii.{bytesOf}
 

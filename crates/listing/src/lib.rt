@@ -13,9 +13,9 @@ ghost use mathlib.Core.Path.{_≡_};
 ghost use Prim.Native.Nat.{_≤_};
 ghost use lib.ListN.{length};
 ghost use Rattle.table.specs.Sizes.{maxLimit};
-ghost use Rattle.solve.specs.Solving.{Outcome};
+ghost use Rattle.table.specs.Outcomes.{Outcome, given};
 ghost use Rattle.listing.specs.Text.{textOf, longestText};
-ghost use Rattle.listing.specs.Listing.{given, ListsInto};
+ghost use Rattle.listing.specs.Listing.{ListsInto};
 
 // Room that every listing fits in.
 pub const LONGEST_TEXT: usize = 510;
@@ -46,7 +46,7 @@ fn tell(read: TaskRead, found: Checked, solved: Reply, list: &[u16], room: &mut 
         (given (textOf read found (record { reply = solved; room = now (list .entry) })) (now (room .entry))) ⌝ }
 {
     if room.len() < length_of(read, found, solved, list) {
-        return solve::report::refusal(ROOM_TOO_SHORT);
+        return table::refusal(ROOM_TOO_SHORT);
     }
     let end = whole(read, found, solved, list, room);
     Reply {

@@ -13,7 +13,7 @@ use Rattle.change.specs.declared.Edit.{Edit}
 use Rattle.facts.specs.Sets.{has, within, joined, removed, only}
 use Rattle.listing.proofs.Determined.{listing-unique}
 use Rattle.listing.specs.Ascii.{bytesOf}
-use Rattle.listing.specs.Listing.{ListsInto, given, answerRoom}
+use Rattle.listing.specs.Listing.{ListsInto, answerRoom}
 use Rattle.listing.specs.Text.{textOf, readText, line, each, digits}
 use Rattle.runcheck.specs.OpenNeeds.{checked, openReport, totalOpen, firstOpen, lowestOpen, openAt, isOpen}
 use Rattle.runcheck.specs.declared.Checked.{Checked}
@@ -21,7 +21,8 @@ use Rattle.session.proofs.CallLaws.{edit-clear}
 use Rattle.session.proofs.Demand3.{demand-3}
 use Rattle.session.specs.Calls.{listed, told-all, then, madeBy, names}
 use Rattle.solve.proofs.SolveLaws.{solves-malformed}
-use Rattle.solve.specs.Solving.{Outcome, refused, told, Solves}
+use Rattle.solve.specs.Solving.{told, Solves}
+use Rattle.table.specs.Outcomes.{Outcome, refused, given}
 use Rattle.table.proofs.Formation.{well-formed}
 use Rattle.table.specs.Answer.{Verdict, found}
 use Rattle.table.specs.Bench.{listingTask, strayTask, goalsAtStart, goalOutOfReach, addsAndDeletes, deletesTheGoal, needsLastFact, pairSteps, pairs}
@@ -95,7 +96,7 @@ abbrev pair : Verdict
 pair = found (97 ∷ 224 ∷ [])
 
 listing-text : bytesOf listingText ≡ textOf (acceptedRead listingTask) (openNeeds 2 3 1) (told pair answerRoom)
-unfolding told textOf readText line each digits
+unfolding told given textOf readText line each digits
 listing-text = refl
 
 refused-text : (c : Checked) (o : Outcome) → bytesOf refusedText ≡ textOf (refusedRead bytesAfterEnd 36) c o

@@ -22,7 +22,8 @@ use Rattle.session.proofs.Demand3.{demand-3, opening-accepts}
 use Rattle.session.specs.Calls.{Opens, Edits, listed, Story, madeBy, names}
 use Rattle.session.specs.Sessions.{inForm}
 use Rattle.session.specs.declared.Edited.{Edited}
-use Rattle.solve.specs.Solving.{Outcome, refused, answered, Solves}
+use Rattle.solve.specs.Solving.{Solves}
+use Rattle.table.specs.Outcomes.{Outcome, refused, answered}
 use Rattle.solve.specs.Tables.{rowAt}
 use Rattle.table.proofs.Formation.{well-formed}
 use Rattle.table.specs.Answer.{Permitted, First}
@@ -42,7 +43,7 @@ use Rattle.taskfile.specs.Lengths.{programRoom}
 use Rattle.taskfile.specs.Reading.{ReadsFile, acceptedRead}
 use Rattle.taskfile.specs.declared.TaskRead.{TaskRead}
 use Rattle.taskwriter.proofs.WritingLaws.{written-unformed, written-file}
-use Rattle.taskwriter.specs.Writing.{written, filled, refusedWrite, acceptedWrite}
+use Rattle.taskwriter.specs.Writing.{written}
 use Rattle.promises.proofs.RefusalLaws.{BadFile, bad-file, write-keeps, check-malformed, apply-defined, bad-list, solve-keeps, list-keeps, listing-keeps}
 use Rattle.promises.proofs.SolvedLaws.{least-length, least-first, accepted-answer, over-exactly, hopeless-exactly, short-exactly, works-cures}
 
@@ -54,7 +55,7 @@ Refused number = number ≡ accepted → ⊥
 
 -- What every call gives for a task that is not well formed: refusal 12 at 0, zeros or the task given, and what was lent as it was.
 pub record BadTask (t : Task) : Type 0 where
-  pub write : (room : List ℕ) → written t room ≡ (refusedWrite notWellFormed 0, room)
+  pub write : (room : List ℕ) → written t room ≡ refused notWellFormed room
   pub check : checked t ≡ record { number = notWellFormed; place = 0; total = 0; step = 0; fact = 0 }
   pub apply : (l : List ℕ) (r : Applied) → Applies t l r → r ≡ record { number = notWellFormed; place = 0; task = t }
   pub solve : (room : List ℕ) (o : Outcome) → Solves t room o → o ≡ refused notWellFormed room
@@ -89,7 +90,7 @@ pub record Demand1 : Type 0 where
   pub bad-edits : (t : Task) → WellFormed t → (s : List ℕ) → length s ≡ sessionPlaces → (e : Edit) → cellInside t (e .cell) ≡ false
       → (after : List ℕ) (r : Edited) → Edits t s e r after → (r ≡ record { number = editOutside; place = 0; task = t }) × (after ≡ s)
   -- "a refused call changes no byte or number lent to it"; a refused applying or edit gives the task back
-  pub write-changes-nothing : (t : Task) (room : List ℕ) (o : Reply × List ℕ) → o ≡ written t room → Refused (o .0 .number) → o .1 ≡ room
+  pub write-changes-nothing : (t : Task) (room : List ℕ) (o : Outcome) → o ≡ written t room → Refused (o .reply .number) → o .room ≡ room
   pub solve-changes-nothing : (t : Task) (room : List ℕ) (o : Outcome) → Solves t room o → Refused (o .reply .number) → o .room ≡ room
   pub open-changes-nothing : (t : Task) (s after : List ℕ) (r : Reply) → Opens t s r after → Refused (r .number) → after ≡ s
   pub edit-changes-nothing : (t : Task) (s after : List ℕ) (e : Edit) (r : Edited) → Edits t s e r after → Refused (r .number)
@@ -128,7 +129,7 @@ pub record Demand2 : Type 0 where
   pub later-bytes : (s : List ℕ) (r : TaskRead) → ReadsFile (take programRoom s) r ↔ ReadsFile s r
   -- "and written": into enough room the file, from the first place on and nothing beside
   pub written-exactly : (t : Task) → WellFormed t → (room : List ℕ) → length (fileOf t) ≤ length room
-      → written t room ≡ (acceptedWrite (length (fileOf t)), filled room (fileOf t))
+      → written t room ≡ answered (fileOf t) room
   -- "the list given makes .., no shorter .., and among equals .."
   pub given : (t : Task) → WellFormed t → (room : List ℕ) (o : Outcome) → Solves t room o → o .reply .number ≡ accepted → Given t room o
   -- "refused as over the limit exactly when some permitted list works but none within the limit", in whatever room
@@ -166,7 +167,7 @@ pub record Demand3 : Type 0 where
 
 bad-task : (t : Task) → formed t ≡ false → BadTask t
 bad-task t h = record {
-  write = λ room. sym (written-unformed t room refl h);
+  write = λ room. written-unformed t room h;
   check = check-malformed t h;
   apply = λ l r a. applies-unique t l r _ a (applies-unformed t l h);
   solve = λ room o s. s .malformed h;

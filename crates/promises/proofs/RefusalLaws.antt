@@ -11,14 +11,16 @@ use Rattle.change.proofs.PermittedLaws.{firstWrong-le, permitted-list}
 use Rattle.change.specs.Applying.{firstWrong, Applies}
 use Rattle.change.specs.Kinds.{oneByOne}
 use Rattle.change.specs.declared.Applied.{Applied}
-use Rattle.listing.specs.Listing.{ListsInto, given}
+use Rattle.listing.specs.Listing.{ListsInto}
 use Rattle.runcheck.specs.OpenNeeds.{checked}
 use Rattle.session.specs.Calls.{listed}
 use Rattle.session.specs.Sessions.{inForm}
-use Rattle.solve.specs.Solving.{Outcome, refused, answered, told, Solves}
+use Rattle.solve.specs.Solving.{told, Solves}
+use Rattle.table.specs.Outcomes.{Outcome, refused, answered, given}
 use Rattle.solve.specs.Tables.{rowAt}
 use Rattle.search.specs.Rows.{verdictIn}
 use Rattle.table.proofs.Bools.{by-order}
+use Rattle.table.proofs.OutcomeLaws.{given-keeps}
 use Rattle.table.specs.Answer.{Verdict, found, over, hopeless, Permitted}
 use Rattle.table.specs.Join.{joinVerdicts}
 use Rattle.table.specs.Refusals.{Check, Refusal, firstOf, accepted, bytesAfterEnd, roomTooShort, notWellFormed, notASession, listNotPermitted}
@@ -29,7 +31,7 @@ use Rattle.taskfile.proofs.Files.{accepted-exactly, accepted-read}
 use Rattle.taskfile.specs.Format.{fileOf}
 use Rattle.taskfile.specs.Reading.{Seen, noTask, faultsAt, Reads, ReadsFile, faulty, good, ended, trailing}
 use Rattle.taskfile.specs.declared.TaskRead.{TaskRead}
-use Rattle.taskwriter.specs.Writing.{checks, outcome, written, filled, refusedWrite, acceptedWrite}
+use Rattle.taskwriter.specs.Writing.{written}
 
 -- ---- files
 
@@ -82,23 +84,17 @@ bad-file s r reads none =
 
 -- ---- writing
 
-outcome-keeps : (r : Refusal) (file room : List ℕ) → (outcome r file room .0 .number ≡ accepted → ⊥) → outcome r file room .1 ≡ room
-unfolding outcome
-outcome-keeps r file room = pick (eqb (r .number) accepted)
-  where
-    both-ways : Bool → Reply × List ℕ
-    both-ways b =
-        cond {A = Reply × List ℕ} b (acceptedWrite (length file), filled room file) (refusedWrite (r .number) (r .place), room)
-
-    pick : (b : Bool) → (both-ways b .0 .number ≡ accepted → ⊥) → both-ways b .1 ≡ room
-    pick true nonzero = absurd (nonzero refl)
-    pick false nonzero = refl
-
-pub write-keeps : (t : Task) (room : List ℕ) (o : Reply × List ℕ) → o ≡ written t room → (o .0 .number ≡ accepted → ⊥) → o .1 ≡ room
+pub write-keeps : (t : Task) (room : List ℕ) (o : Outcome) → o ≡ written t room → (o .reply .number ≡ accepted → ⊥) → o .room ≡ room
 unfolding written
 write-keeps t room o e nonzero =
-    ap (λ (x : Reply × List ℕ). x .1) e ∙
-    outcome-keeps (firstOf (checks t room)) (fileOf t) room (λ k. nonzero (ap (λ (x : Reply × List ℕ). x .0 .number) e ∙ k))
+    ap (λ (x : Outcome). x .room) e ∙ pick (formed t) (λ k. nonzero (ap (λ (x : Outcome). x .reply .number) e ∙ k))
+  where
+    either : Bool → Outcome
+    either b = cond {A = Outcome} b (given (fileOf t) room) (refused notWellFormed room)
+
+    pick : (b : Bool) → (either b .reply .number ≡ accepted → ⊥) → either b .room ≡ room
+    pick true h = given-keeps (fileOf t) room h
+    pick false h = refl
 
 -- ---- the run check
 
@@ -136,12 +132,7 @@ bad-list t w e l bad r a =
 
 told-keeps : (v : Verdict) (room : List ℕ) → (told v room .reply .number ≡ accepted → ⊥) → told v room .room ≡ room
 unfolding told
-told-keeps (found l) room = pick (ltb (length room) (length l))
-  where
-    pick : (b : Bool) → (cond {A = Outcome} b (refused roomTooShort room) (answered l room) .reply .number ≡ accepted → ⊥)
-        → cond {A = Outcome} b (refused roomTooShort room) (answered l room) .room ≡ room
-    pick true nonzero = refl
-    pick false nonzero = absurd (nonzero refl)
+told-keeps (found l) room = given-keeps l room
 told-keeps over room = λ nonzero. refl
 told-keeps hopeless room = λ nonzero. refl
 
@@ -174,12 +165,6 @@ list-keeps t s room o e nonzero =
 -- ---- the listing
 
 pub listing-keeps : (input room : List ℕ) (o : Outcome) → ListsInto input room o → (o .reply .number ≡ accepted → ⊥) → o .room ≡ room
-unfolding given
 listing-keeps input room o a nonzero =
     ap (λ (x : Outcome). x .room) (a .outcome) ∙
-    pick (ltb (length room) (length (a .text))) (λ k. nonzero (ap (λ (x : Outcome). x .reply .number) (a .outcome) ∙ k))
-  where
-    pick : (b : Bool) → (cond {A = Outcome} b (refused roomTooShort room) (answered (a .text) room) .reply .number ≡ accepted → ⊥)
-        → cond {A = Outcome} b (refused roomTooShort room) (answered (a .text) room) .room ≡ room
-    pick true h = refl
-    pick false h = absurd (h refl)
+    given-keeps (a .text) room (λ k. nonzero (ap (λ (x : Outcome). x .reply .number) (a .outcome) ∙ k))

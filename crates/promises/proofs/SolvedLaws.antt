@@ -5,9 +5,7 @@ use mathlib.Core.Logic.{inl, inr, _↔_}
 use mathlib.Core.Path.{_≡_, refl, sym, ap, _∙_, subst}
 use Prim.Native.Nat.{ℕ, _<_, _≤_}
 use native.Mathlib.Omega.{arith}
-use lib.Dec.{ltb}
 use lib.ListN.{length}
-use borrow.Author.Tests.{lt-ltb, ltb-true}
 use Rattle.change.proofs.ApplyLaws.{applies-made, applies-unique, applied-well, applied-valid}
 use Rattle.change.proofs.PermittedLaws.{list-permitted}
 use Rattle.change.specs.Applying.{Applies}
@@ -15,7 +13,9 @@ use Rattle.change.specs.Kinds.{oneByOne}
 use Rattle.change.specs.declared.Applied.{Applied}
 use Rattle.runcheck.proofs.Valid.{valid-checked-zero}
 use Rattle.runcheck.specs.OpenNeeds.{checked}
-use Rattle.solve.specs.Solving.{Outcome, refused, answered, told, Solves}
+use Rattle.solve.specs.Solving.{told, Solves}
+use Rattle.table.proofs.OutcomeLaws.{given-cases, given-short}
+use Rattle.table.specs.Outcomes.{Outcome, answered}
 use Rattle.table.proofs.AnswerLaws.{within-unique}
 use Rattle.table.proofs.Formation.{well-formed}
 use Rattle.table.proofs.OrderLaws.{≼-length}
@@ -42,13 +42,9 @@ told-as : (v : Verdict) (room : List ℕ) (o : Outcome) → o ≡ told v room �
 unfolding told
 told-as v room o e = subst (λ (n : ℕ). Told room o n v) (sym (ap number e)) (pick v e)
   where
-    sized : (l : List ℕ) (b : Bool) → ltb (length room) (length l) ≡ b → o ≡ cond {A = Outcome} b (refused roomTooShort room) (answered l room)
-        → Told room o (number (cond {A = Outcome} b (refused roomTooShort room) (answered l room))) (found l)
-    sized l true h e = short l (ltb-true (length room) (length l) h)
-    sized l false h e = fits l e
-
     pick : (v : Verdict) → o ≡ told v room → Told room o (number (told v room)) v
-    pick (found l) e = sized l (ltb (length room) (length l)) refl e
+    pick (found l) e =
+        given-cases l room (λ u. o ≡ u → Told room o (number u) (found l)) (λ low d. short l low) (λ enough d. fits l d) e
     pick over e = above
     pick hopeless e = none
 
@@ -110,7 +106,7 @@ module _ (t : Task) (w : WellFormed t) (room : List ℕ) (o : Outcome) (s : Solv
   unfolding told
   short-exactly = (
     λ h. pick (verdict-of roomTooShort h),
-    λ p. ap number (is-told (found (p .0)) (p .1, p .2)) ∙ rw (lt-ltb (length room) (length (p .0)) (p .3)),
+    λ p. ap number (is-told (found (p .0)) (p .1, p .2) ∙ given-short (p .0) room (p .3)),
   )
     where
       pick : (v : Verdict) × Holding v × Told room o roomTooShort v

@@ -21,7 +21,8 @@ use Rattle.session.specs.Replays.{editOf, editsIn, WholeSession}
 use Rattle.session.specs.declared.Edited.{Edited}
 use Rattle.solve.proofs.RowLaws.{stored-unique}
 use Rattle.solve.proofs.SolveLaws.{solve-unique}
-use Rattle.solve.specs.Solving.{Outcome, Solves}
+use Rattle.solve.specs.Solving.{Solves}
+use Rattle.table.specs.Outcomes.{Outcome}
 use Rattle.table.specs.Refusals.{accepted}
 use Rattle.table.specs.declared.Reply.{Reply}
 use Rattle.table.specs.declared.Task.{Task}
@@ -52,7 +53,7 @@ pub read-unique : (s : List ℕ) → Determined (ReadsFile s)
 read-unique s r q a b = reads-unique a b
 
 -- write: the reply, and the room afterwards
-pub write-unique : (t : Task) (room : List ℕ) → Determined (λ (o : Reply × List ℕ). o ≡ written t room)
+pub write-unique : (t : Task) (room : List ℕ) → Determined (λ (o : Outcome). o ≡ written t room)
 write-unique t room = equation (written t room)
 
 -- check_run

@@ -7,7 +7,7 @@ use Prim.Native.Nat.{ℕ}
 use denote.Ref.{RefT, now}
 use Rattle.boundary.proofs.AnsweringLaws.{answers-one}
 use Rattle.boundary.specs.Answers.{Answers, replyLength, checkedLength, recordLength, answerMost, replyWords, checkedWords, recordWords, taskAnswer}
-use Rattle.boundary.specs.Calls.{Nothing, AnswersReply, HandsRecord, ReadsTask, WritesTask, ChecksRun, AppliesList, SolvesTask, OpensSession, EditsSession, ListsSession, ListsInput}
+use Rattle.boundary.specs.Calls.{Nothing, AnswersOutcome, HandsRecord, ReadsTask, WritesTask, ChecksRun, AppliesList, SolvesTask, OpensSession, EditsSession, ListsSession, ListsInput}
 use Rattle.boundary.specs.Words.{taskIn}
 use Rattle.change.specs.Applying.{Applies}
 use Rattle.change.specs.declared.Applied.{Applied}
@@ -19,7 +19,8 @@ use Rattle.runcheck.specs.OpenNeeds.{checked}
 use Rattle.session.specs.Calls.{Opens, Edits, listed}
 use Rattle.session.specs.Replays.{editOf}
 use Rattle.session.specs.declared.Edited.{Edited}
-use Rattle.solve.specs.Solving.{Outcome, Solves}
+use Rattle.solve.specs.Solving.{Solves}
+use Rattle.table.specs.Outcomes.{Outcome}
 use Rattle.table.specs.declared.Reply.{Reply}
 use Rattle.taskfile.specs.Reading.{ReadsFile}
 use Rattle.taskfile.specs.Records.{recordAt, bodyOf}
@@ -91,8 +92,7 @@ module _ {Y : Type 0} (Inner : Y → List ℕ → Type 0) (out : Y → List ℕ)
 
 -- One whose inner call gives an outcome: a reply, and the room.
 filling : (Inner : Outcome → Type 0) (room answer : List ℕ) → Determined Inner
-    → Determined (λ (o : ℕ × List ℕ × List ℕ).
-    AnswersReply room (o .2) (λ y. Inner (record { reply = y; room = o .2 })) answer (o .1) (o .0))
+    → Determined (λ (o : ℕ × List ℕ × List ℕ). AnswersOutcome room (o .2) Inner answer (o .1) (o .0))
 filling Inner room answer one =
     lending (λ y after. Inner (record { reply = y; room = after })) replyWords
     (λ r q a b. ap (λ (o : Outcome). (o .reply, o .room)) (one (record { reply = r .0; room = r .1 }) (record { reply = q .0; room = q .1 }) a b))
@@ -125,7 +125,7 @@ zp-apply-unique ws list answer =
 -- zp_write, zp_solve, zp_list, zp_listing: the reply's words, and the room afterwards
 pub zp-write-unique : (ws room answer : List ℕ) → Determined (λ (o : ℕ × List ℕ × List ℕ). WritesTask ws room (o .2) answer (o .1) (o .0))
 unfolding WritesTask
-zp-write-unique ws room answer = lending (λ y after. (y, after) ≡ written (taskIn ws) room) replyWords (write-unique (taskIn ws) room) replyLength room answer
+zp-write-unique ws room answer = filling (λ o. o ≡ written (taskIn ws) room) room answer (write-unique (taskIn ws) room)
 
 pub zp-solve-unique : (ws room answer : List ℕ) → Determined (λ (o : ℕ × List ℕ × List ℕ). SolvesTask ws room (o .2) answer (o .1) (o .0))
 unfolding SolvesTask

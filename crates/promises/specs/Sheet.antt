@@ -9,7 +9,8 @@ use lib.ListN.{length}
 use Rattle.change.specs.declared.Cell.the-variants.{Delete}
 use Rattle.change.specs.declared.Edit.{Edit}
 use Rattle.listing.specs.Ascii.{bytesOf}
-use Rattle.listing.specs.Listing.{ListsInto, given}
+use Rattle.listing.specs.Listing.{ListsInto}
+use Rattle.table.specs.Outcomes.{given}
 use Rattle.runcheck.specs.OpenNeeds.{checked}
 use Rattle.runcheck.specs.declared.Checked.{Checked}
 use Rattle.session.specs.Calls.{Opens, Edits, listed}

@@ -13,7 +13,8 @@ use Rattle.change.specs.declared.Cell.{Cell}
 use Rattle.change.specs.declared.Cell.the-variants.{Need, Add, Delete, Start, Goal}
 use Rattle.change.specs.declared.Edit.{Edit}
 use Rattle.solve.proofs.RowLaws.{stored-unique, rewritten-unique}
-use Rattle.solve.specs.Solving.{Outcome, refused, told}
+use Rattle.solve.specs.Solving.{told}
+use Rattle.table.specs.Outcomes.{Outcome, refused}
 use Rattle.solve.specs.Tables.{verdictAt, Stored, Rewritten}
 use Rattle.table.proofs.FlagLaws.{and-right}
 use Rattle.table.proofs.Formation.{well-formed}

@@ -15,7 +15,8 @@ use Rattle.change.specs.declared.Edit.{Edit}
 use Rattle.search.specs.Rows.{RightRow}
 use Rattle.solve.proofs.RowLaws.{stored-unique}
 use Rattle.solve.proofs.SolveLaws.{solves-told, solve-unique}
-use Rattle.solve.specs.Solving.{Outcome, told, Solves}
+use Rattle.solve.specs.Solving.{told, Solves}
+use Rattle.table.specs.Outcomes.{Outcome}
 use Rattle.solve.specs.Tables.{rowAt, verdictAt, Stored, Rewritten}
 use Rattle.table.proofs.AnswerLaws.{within-same}
 use Rattle.table.proofs.Formation.{well-formed, formed-well}

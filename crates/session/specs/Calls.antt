@@ -8,7 +8,8 @@ use lib.ListN.{length}
 use Rattle.change.specs.Editing.{edited, cellFact, cellInside}
 use Rattle.change.specs.declared.Edit.{Edit}
 use Rattle.search.specs.Rows.{verdictIn}
-use Rattle.solve.specs.Solving.{Outcome, refused, told}
+use Rattle.solve.specs.Solving.{told}
+use Rattle.table.specs.Outcomes.{Outcome, refused}
 use Rattle.solve.specs.Tables.{rowAt, Stored, Rewritten}
 use Rattle.table.specs.Join.{joinVerdicts}
 use Rattle.table.specs.Refusals.{Check, Refusal, firstOf, refuse, accepted, notWellFormed, notASession, editOutside}

@@ -8,7 +8,8 @@ use lib.ListN.{getD}
 use Rattle.change.specs.declared.Cell.{Cell}
 use Rattle.change.specs.declared.Cell.the-variants.{Need, Add, Delete, Start, Goal}
 use Rattle.change.specs.declared.Edit.{Edit}
-use Rattle.solve.specs.Solving.{Outcome, Solves}
+use Rattle.solve.specs.Solving.{Solves}
+use Rattle.table.specs.Outcomes.{Outcome}
 use Rattle.solve.specs.Tables.{Stored}
 use Rattle.table.specs.Refusals.{accepted}
 use Rattle.table.specs.Sizes.{maxFacts}

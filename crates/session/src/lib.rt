@@ -12,7 +12,7 @@ use table::Task;
 use table::formed;
 use table::refusals;
 ghost use mathlib.Core.Path.{_≡_};
-ghost use Rattle.solve.specs.Solving.{Outcome};
+ghost use Rattle.table.specs.Outcomes.{Outcome};
 ghost use Rattle.session.specs.Calls.{Opens, Edits, listed};
 
 // What an edit gives: 0, 0 and the edited task, or the refusal and the task given.
@@ -27,10 +27,10 @@ pub fn open(t: Task, table: &mut [u16]) -> Reply
     ensures { λ r. ⌜ Opens t (now (table .entry)) r (now (table .exit)) ⌝ }
 {
     if !formed::is_formed(t) {
-        return report::refusal(refusals::NOT_WELL_FORMED);
+        return table::refusal(refusals::NOT_WELL_FORMED);
     }
     if table.len() != SESSION_PLACES {
-        return report::refusal(refusals::NOT_A_SESSION);
+        return table::refusal(refusals::NOT_A_SESSION);
     }
     rows::fill(t, table);
     Reply {
@@ -79,10 +79,10 @@ pub fn list(t: Task, table: &[u16], room: &mut [u16]) -> Reply
     ensures { λ r. ⌜ _≡_ {A = Outcome} (record { reply = r; room = now (room .exit) }) (listed t (now (table .entry)) (now (room .entry))) ⌝ }
 {
     if !formed::is_formed(t) {
-        return report::refusal(refusals::NOT_WELL_FORMED);
+        return table::refusal(refusals::NOT_WELL_FORMED);
     }
     if !form::is_in_form(t, table) {
-        return report::refusal(refusals::NOT_A_SESSION);
+        return table::refusal(refusals::NOT_A_SESSION);
     }
     report::report(t, table, room)
 }

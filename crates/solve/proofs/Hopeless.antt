@@ -22,7 +22,9 @@ use Rattle.table.proofs.FlagLaws.{or-neither}
 use Rattle.table.proofs.Formation.{well-formed}
 use Rattle.table.proofs.JoinLaws.{formed-inside, permitted-none}
 use Rattle.table.proofs.RunLaws.{right-valid, stateAt-first}
-use Rattle.solve.specs.Solving.{Outcome, refused, answered, told, Solves}
+use Rattle.solve.specs.Solving.{told, Solves}
+use Rattle.table.specs.Outcomes.{Outcome, refused}
+use Rattle.table.proofs.OutcomeLaws.{given-cases}
 use Rattle.solve.specs.Stuck.{Stuck}
 use Rattle.solve.proofs.FullLists.{step-works}
 
@@ -115,11 +117,8 @@ module _ (t : Task) where
 -- Only the verdict hopeless is told as 9.
 told-nine : (v : Verdict) (room : List ℕ) → told v room .reply .number ≡ noListWorks → v ≡ hopeless
 unfolding told
-told-nine (found l) room h = absurd (pick (ltb (length room) (length l)) h)
-  where
-    pick : (b : Bool) → cond {A = Outcome} b (refused roomTooShort room) (answered l room) .reply .number ≡ noListWorks → ⊥
-    pick true e = omega arith
-    pick false e = omega arith
+told-nine (found l) room h =
+    absurd (given-cases l room (λ o. o .reply .number ≡ noListWorks → ⊥) (λ short e. omega arith) (λ fits e. omega arith) h)
 told-nine over room h = absurd (omega arith)
 told-nine hopeless room h = refl
 

@@ -19,7 +19,9 @@ use Rattle.table.proofs.JoinLaws.{someBelow-first, someBelow-next, joinLists-fi
 use Rattle.table.specs.declared.Reply.{Reply}
 use Rattle.solve.specs.Copies.{pasted}
 use Rattle.solve.specs.Reports.{tallyOf}
-use Rattle.solve.specs.Solving.{Outcome, refused, answered, told}
+use Rattle.solve.specs.Solving.{told}
+use Rattle.table.specs.Outcomes.{Outcome, refused, given}
+use Rattle.table.proofs.OutcomeLaws.{given-short, given-whole}
 use Rattle.solve.specs.Tables.{rowAt, verdictAt, repairsIn, Readable}
 use Rattle.solve.specs.declared.report.Tally.{Tally}
 use Rattle.solve.proofs.CopyLaws.{pasted-length}
@@ -225,11 +227,6 @@ module _ (s : List ℕ) (n : ℕ) (before : List ℕ) where
 
 -- ---- what the tally tells
 
--- A refusal's reply, with the room as it was.
-pub refused-told : (k : ℕ) (r : Reply) (room : List ℕ) (o : Outcome) → r ≡ record { number = k; place = 0; length = 0 }
-    → o ≡ refused k room → _≡_ {A = Outcome} (record { reply = r; room = room }) o
-refused-told k r room o e d = (λ j. record { reply = e j; room = room }) ∙ sym d
-
 module _ (s : List ℕ) (n limit : ℕ) (room : List ℕ) (y : Tally) (e : y ≡ tallyOf s n) where
   some-hopeless : y .hopeless ≡ someBelow (λ f. isHopeless (verdictAt s f)) n
   unfolding tallyOf
@@ -256,23 +253,19 @@ module _ (s : List ℕ) (n limit : ℕ) (room : List ℕ) (y : Tally) (e : y ≡
   unfolding told joinVerdicts
   told-over h k = rw (sym some-hopeless ∙ h, sym tally-over ∙ k)
 
+  -- No row says 7 or 8, and the lengths sum to no more than the limit: the joined list is given.
+  told-given : y .hopeless ≡ false → (y .over || ltb limit (y .total)) ≡ false
+      → told (joinVerdicts (verdictAt s) n limit) room ≡ given (joinLists (verdictAt s) n) room
+  unfolding told joinVerdicts
+  told-given h k = rw (sym some-hopeless ∙ h, sym tally-over ∙ k)
+
   pub told-short : y .hopeless ≡ false → (y .over || ltb limit (y .total)) ≡ false → length room < y .total
       → told (joinVerdicts (verdictAt s) n limit) room ≡ refused roomTooShort room
-  unfolding told joinVerdicts
-  told-short h k l =
-      let short : ltb (length room) (length (joinLists (verdictAt s) n)) ≡ true = lt-ltb (length room) (length (joinLists (verdictAt s) n)) (omega (arith, tally-total)) in
-      rw (sym some-hopeless ∙ h, sym tally-over ∙ k, short)
-
-  told-found : y .hopeless ≡ false → (y .over || ltb limit (y .total)) ≡ false → y .total ≤ length room
-      → told (joinVerdicts (verdictAt s) n limit) room ≡ answered (joinLists (verdictAt s) n) room
-  unfolding told joinVerdicts
-  told-found h k l =
-      let roomy : ltb (length room) (length (joinLists (verdictAt s) n)) ≡ false = le-ltb (length room) (length (joinLists (verdictAt s) n)) (omega (arith, tally-total)) in
-      rw (sym some-hopeless ∙ h, sym tally-over ∙ k, roomy)
+  told-short h k l = told-given h k ∙ given-short (joinLists (verdictAt s) n) room (omega (arith, tally-total))
 
   pub answered-told : y .hopeless ≡ false → (y .over || ltb limit (y .total)) ≡ false → y .total ≤ length room → (after : List ℕ)
       → after ≡ joinLists (verdictAt s) n ++ drop (length (joinLists (verdictAt s) n)) room
       → _≡_ {A = Outcome} (record { reply = record { number = accepted; place = 0; length = y .total }; room = after })
       (told (joinVerdicts (verdictAt s) n limit) room)
   answered-told h k l after w =
-      (λ j. record { reply = record { number = accepted; place = 0; length = tally-total j }; room = w j }) ∙ sym (told-found h k l)
+      given-whole (joinLists (verdictAt s) n) room after (y .total) (omega (arith, tally-total)) tally-total w ∙ sym (told-given h k)

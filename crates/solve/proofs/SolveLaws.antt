@@ -10,7 +10,8 @@ use Rattle.table.specs.Tasks.{WorksFor, WellFormed, formed}
 use Rattle.table.specs.declared.Task.{Task}
 use Rattle.table.proofs.AnswerLaws.{within-unique}
 use Rattle.table.proofs.Formation.{well-formed}
-use Rattle.solve.specs.Solving.{Outcome, refused, told, Solves}
+use Rattle.solve.specs.Solving.{told, Solves}
+use Rattle.table.specs.Outcomes.{Outcome, refused}
 use Rattle.solve.specs.Tables.{verdictAt, Stored}
 use Rattle.solve.proofs.RowLaws.{stored-within}
 

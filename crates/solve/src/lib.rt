@@ -15,7 +15,7 @@ pub fn solve(t: Task, room: &mut [u16]) -> Reply
     ensures { λ r. ⌜ Solves t (now (room .entry)) (record { reply = r; room = now (room .exit) }) ⌝ }
 {
     if !table::formed::is_formed(t) {
-        return report::refusal(refusals::NOT_WELL_FORMED);
+        return table::refusal(refusals::NOT_WELL_FORMED);
     }
     let mut table = [UNUSED; SESSION_PLACES];
     rows::fill(t, &mut table);

@@ -7,6 +7,7 @@ use table::ROW;
 use table::ROW_PLACES;
 use table::Reply;
 use table::Task;
+use table::refusal;
 use table::refusals;
 ghost use mathlib.Core.List.{_++_};
 ghost use mathlib.Core.Path.{_≡_};
@@ -16,7 +17,8 @@ ghost use Rattle.table.specs.Join.{joinLists, joinVerdicts};
 ghost use Rattle.table.specs.Sizes.{maxFacts, sessionPlaces};
 ghost use Rattle.table.specs.Tasks.{WellFormed};
 ghost use Rattle.solve.specs.Reports.{tallyOf};
-ghost use Rattle.solve.specs.Solving.{Outcome, told};
+ghost use Rattle.solve.specs.Solving.{told};
+ghost use Rattle.table.specs.Outcomes.{Outcome};
 ghost use Rattle.solve.specs.Tables.{rowAt, verdictAt, repairsIn, Readable};
 
 // What the rows come to: does one say 8, does one say 7, and the sum of the lengths.
@@ -81,17 +83,6 @@ fn write_lists(table: &[u16], facts: usize, room: &mut [u16])
         let count = repairs_at(table, f);
         copying::copy(table, ROW_PLACES * f + 1, count, room, at);
         at = at + count;
-    }
-}
-
-// A refusal at place 0.
-pub fn refusal(number: usize) -> Reply
-    ensures { λ r. ⌜ r ≡ record { number = number; place = 0; length = 0 } ⌝ }
-{
-    Reply {
-        number,
-        place: 0,
-        length: 0,
     }
 }
 

@@ -1,6 +1,7 @@
 -- What other crates cite of `table`: the laws of flags, counts and gathered lists, of the order of lists, of runs, repairs
--- and the answer, of tasks, and of repair numbers.
+-- and the answer, of tasks, of repair numbers, and of what is given into lent room.
 pub mod FlagLaws
+pub mod OutcomeLaws
 pub mod Bools
 pub mod CountingLaws
 pub mod GatherLaws

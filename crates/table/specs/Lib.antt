@@ -2,6 +2,7 @@
 -- Nothing here mentions rows, searches or code.
 pub mod Sizes
 pub mod Refusals
+pub mod Outcomes
 pub mod Counting
 pub mod Lists
 pub mod Strips

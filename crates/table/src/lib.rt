@@ -7,6 +7,7 @@ pub mod repair;
 use repair::Repair;
 ghost use mathlib.Core.Path.{_≡_};
 ghost use Rattle.table.specs.Sizes.{maxFacts, maxActions, maxSteps, maxLimit, maxRow, rowPlaces, sessionPlaces, unused, kinds, perFact, perKind, lastRepair};
+ghost use Rattle.table.specs.Outcomes as outcomes;
 ghost use Rattle.table.specs.Repairs.{dropDelete, addEffect, dropNeed};
 
 // The sizes of document 01, by one name each; `bounds` shows that they are those of specs/Sizes.
@@ -54,6 +55,17 @@ pub struct Reply {
     pub number: usize,
     pub place: usize,
     pub length: usize,
+}
+
+// A refusal at place 0.
+pub fn refusal(number: usize) -> Reply
+    ensures { λ r. ⌜ r ≡ outcomes.refusal number ⌝ }
+{
+    Reply {
+        number,
+        place: 0,
+        length: 0,
+    }
 }
 
 // Every size and stride of the code, to be compared with the definitions' in one contract.

@@ -1,38 +1,38 @@
--- What writing gives in each of its three cases.
+-- What writing gives in each of its cases.
 use mathlib.Core.Bool.{true, false}
 use mathlib.Core.List.{List}
-use mathlib.Core.Path.{_≡_}
+use mathlib.Core.Path.{_≡_, sym, _∙_}
 use Prim.Native.Nat.{ℕ, _≤_, _<_}
-use lib.ListN.{length}
 use native.Mathlib.Omega.{arith}
-use borrow.Author.Tests.{lt-ltb, le-ltb}
-use Rattle.table.specs.Refusals.{firstOf, roomTooShort, notWellFormed}
+use lib.ListN.{length}
+use Rattle.room.proofs.PlacingLaws.{placed-whole}
+use Rattle.room.specs.Placing.{Placed}
+use Rattle.table.proofs.OutcomeLaws.{given-short, given-fits, given-whole}
+use Rattle.table.specs.Outcomes.{Outcome, refused, answered, given}
+use Rattle.table.specs.Refusals.{accepted, roomTooShort, notWellFormed}
 use Rattle.table.specs.Tasks.{formed}
-use Rattle.table.specs.declared.Reply.{Reply}
 use Rattle.table.specs.declared.Task.{Task}
 use Rattle.taskfile.specs.Format.{fileOf}
-use Rattle.room.specs.Placing.{Placed}
-use Rattle.taskwriter.specs.Writing.{checks, outcome, written, filled, refusedWrite, acceptedWrite}
-use Rattle.room.proofs.PlacingLaws.{placed-whole}
+use Rattle.taskwriter.specs.Writing.{written}
 
 module _ (t : Task) (room : List ℕ) where
-  pub written-unformed : {r : Reply} → r ≡ refusedWrite notWellFormed 0 → formed t ≡ false → (r, room) ≡ written t room
-  unfolding written outcome checks firstOf
-  written-unformed p e = rw (p, e)
+  pub written-unformed : formed t ≡ false → written t room ≡ refused notWellFormed room
+  unfolding written
+  written-unformed e = rw e
 
-  pub written-short : {r : Reply} → r ≡ refusedWrite roomTooShort 0 → formed t ≡ true
-      → length room < length (fileOf t) → (r, room) ≡ written t room
-  unfolding written outcome checks firstOf
-  written-short p e h = rw (p, e, lt-ltb (length room) (length (fileOf t)) h)
+  written-given : formed t ≡ true → written t room ≡ given (fileOf t) room
+  unfolding written
+  written-given e = rw e
 
-  pub written-file : formed t ≡ true → length (fileOf t) ≤ length room
-      → written t room ≡ (acceptedWrite (length (fileOf t)), filled room (fileOf t))
-  unfolding written outcome checks firstOf
-  written-file e h = rw (e, le-ltb (length room) (length (fileOf t)) h)
+  pub written-short : formed t ≡ true → length room < length (fileOf t) → written t room ≡ refused roomTooShort room
+  written-short e h = written-given e ∙ given-short (fileOf t) room h
+
+  pub written-file : formed t ≡ true → length (fileOf t) ≤ length room → written t room ≡ answered (fileOf t) room
+  written-file e h = written-given e ∙ given-fits (fileOf t) room h
 
   -- The same, of what the writer left.
-  pub written-whole : {after : List ℕ} {end : ℕ} → formed t ≡ true → length (fileOf t) ≤ length room
-      → Placed room after 0 end (fileOf t) → (acceptedWrite end, after) ≡ written t room
-  written-whole {after} {end} e h p =
-      let n : end ≡ length (fileOf t) = omega (arith, p .next-is) in
-      rw (written-file e h, placed-whole p h, n)
+  pub written-whole : (after : List ℕ) (end : ℕ) → formed t ≡ true → length (fileOf t) ≤ length room
+      → Placed room after 0 end (fileOf t)
+      → _≡_ {A = Outcome} (record { reply = record { number = accepted; place = 0; length = end }; room = after }) (written t room)
+  written-whole after end e h p =
+      given-whole (fileOf t) room after end h (omega (arith, p .next-is)) (placed-whole p h) ∙ sym (written-given e)

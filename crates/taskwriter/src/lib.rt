@@ -7,23 +7,14 @@ use file::whole;
 use table::Reply;
 use table::Task;
 use table::formed::is_formed;
+use table::refusal;
 use table::refusals;
 ghost use mathlib.Core.Path.{_≡_};
 ghost use lib.ListN.{length};
+ghost use Rattle.table.specs.Outcomes.{Outcome};
 ghost use Rattle.table.specs.Tasks.{WellFormed};
 ghost use Rattle.taskfile.specs.Format.{fileOf};
-ghost use Rattle.taskwriter.specs.Writing.{written, refusedWrite};
-
-// A refused call returns zeros beside its number.
-fn refused(number: usize) -> Reply
-    ensures { λ r. ⌜ r ≡ refusedWrite number 0 ⌝ }
-{
-    Reply {
-        number: number,
-        place: 0,
-        length: 0,
-    }
-}
+ghost use Rattle.taskwriter.specs.Writing.{written};
 
 // How long the task's file is: written where there is next to no room, it is only counted.
 fn length_of(task: Task) -> usize
@@ -36,13 +27,14 @@ fn length_of(task: Task) -> usize
 
 // The task's file into the lent room, from its first place on and nothing beside; or 12, or 11, and nothing written.
 pub fn write(task: Task, room: &mut [u8]) -> Reply
-    ensures { λ r. ⌜ (r, now (room .exit)) ≡ written task (now (room .entry)) ⌝ }
+    ensures { λ r.
+        ⌜ _≡_ {A = Outcome} (record { reply = r; room = now (room .exit) }) (written task (now (room .entry))) ⌝ }
 {
     if !is_formed(task) {
-        return refused(refusals::NOT_WELL_FORMED);
+        return refusal(refusals::NOT_WELL_FORMED);
     }
     if room.len() < length_of(task) {
-        return refused(refusals::ROOM_TOO_SHORT);
+        return refusal(refusals::ROOM_TOO_SHORT);
     }
     let end = whole(task, room);
     Reply {

@@ -1,7 +1,9 @@
 -- `tell`: 11 where the room is shorter, and else the whole text.
 use native.Mathlib.Omega.{arith}
+use Rattle.table.proofs.OutcomeLaws.{refused-told, given-short}
+use Rattle.table.specs.Refusals.{roomTooShort}
 use Rattle.listing.specs.Text.{textOf}
-use Rattle.listing.proofs.TextLaws.{told-short, told-whole}
+use Rattle.listing.proofs.TextLaws.{told-whole}
 use borrow.Author.Needs.{needs}
 use Rattle.listing.proofs.tell.Statement.{statement}
 use Rattle.listing.proofs.tell.Tie as tie
@@ -15,8 +17,8 @@ refusal-requires c κs = search needs
 returns : tie.Need-returns
 returns c =
     let a = c .before .before .before .before .before .args in
-    told-short (textOf (a .read) (a .found) (record { reply = a .solved; room = a .list .now })) (a .room .now) (c .refusal .result) (c .refusal .ensures)
-    (omega arith)
+    refused-told roomTooShort (c .refusal .result) (a .room .now) _ (c .refusal .ensures)
+    (given-short (textOf (a .read) (a .found) (record { reply = a .solved; room = a .list .now })) (a .room .now) (omega arith))
 
 whole-requires : tie.Need-whole-requires
 whole-requires c κs = search needs

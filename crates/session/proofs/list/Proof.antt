@@ -3,7 +3,7 @@ use mathlib.Core.Bool.{true}
 use mathlib.Core.Path.{_≡_, sym, _∙_}
 use borrow.Author.Needs.{needs}
 use borrow.Author.Tests.{not-true, not-false}
-use Rattle.solve.proofs.ReportLaws.{refused-told}
+use Rattle.table.proofs.OutcomeLaws.{refused-told}
 use Rattle.table.proofs.Formation.{told-formed, told-unformed}
 use Rattle.table.specs.Refusals.{notWellFormed, notASession}
 use Rattle.table.specs.Tasks.{Shaped, WellFormed}

@@ -5,8 +5,8 @@ use borrow.Author.Needs.{needs}
 use Rattle.table.specs.Refusals.{notWellFormed}
 use Rattle.table.specs.Tasks.{Shaped, WellFormed}
 use Rattle.table.proofs.Formation.{told-formed, told-unformed}
-use Rattle.solve.specs.Solving.{refused}
-use Rattle.solve.proofs.ReportLaws.{refused-told}
+use Rattle.table.specs.Outcomes.{refused}
+use Rattle.table.proofs.OutcomeLaws.{refused-told}
 use Rattle.solve.proofs.RowLaws.{stored-readable}
 use Rattle.solve.proofs.SolveLaws.{solves-malformed, solves-told}
 use Rattle.solve.proofs.solve.Statement.{statement}

@@ -5,6 +5,8 @@ use native.Mathlib.Omega.{arith}
 use borrow.Author.Tests.{not-true, not-false}
 use Rattle.table.specs.Tasks.{formed, Shaped, WellFormed}
 use Rattle.table.proofs.Formation.{formed-well}
+use Rattle.table.proofs.OutcomeLaws.{refused-told}
+use Rattle.table.specs.Refusals.{roomTooShort, notWellFormed}
 use Rattle.taskwriter.proofs.WritingLaws.{written-unformed, written-short, written-whole}
 use borrow.Author.Needs.{needs}
 use Rattle.taskwriter.proofs.write.Statement.{statement}
@@ -25,24 +27,25 @@ is-well c =
 is-formed-requires : tie.Need-is-formed-requires
 is-formed-requires c κs = search needs
 
-refused-requires : tie.Need-refused-requires
-refused-requires c κs = search needs
+refusal-requires : tie.Need-refusal-requires
+refusal-requires c κs = search needs
 
 returns : tie.Need-returns
 returns c =
     let tested = c .before .before .is-formed .ensures in
-    written-unformed _ _ (c .refused .ensures) (sym tested ∙ not-true _ (c .before .if1 .taken))
+    refused-told notWellFormed (c .refusal .result) _ _ (c .refusal .ensures) (written-unformed _ _ (sym tested ∙ not-true _ (c .before .if1 .taken)))
 
 length-of-requires : tie.Need-length-of-requires
 length-of-requires c κs = is-well c
 
-refused-requires-2 : tie.Need-refused-requires-2
-refused-requires-2 c κs = search needs
+refusal-requires-2 : tie.Need-refusal-requires-2
+refusal-requires-2 c κs = search needs
 
 returns-2 : tie.Need-returns-2
 returns-2 c =
     let z = c .before .before in
-    written-short _ _ (c .refused2 .ensures) (is-good (z .before)) (omega (arith, z .length-of .ensures, c .before .if2 .taken))
+    refused-told roomTooShort (c .refusal2 .result) _ _ (c .refusal2 .ensures)
+    (written-short _ _ (is-good (z .before)) (omega (arith, z .length-of .ensures, c .before .if2 .taken)))
 
 whole-requires : tie.Need-whole-requires
 whole-requires c κs = is-well (c .before .before .before)
@@ -54,17 +57,17 @@ returns-3 : tie.Need-returns-3
 returns-3 c =
     let y = c .before .before .before .before in
     let z = y .before in
-    written-whole _ _ (is-good (z .before)) (omega (arith, z .length-of .ensures, y .if2 .left)) (c .before .before .whole .ensures)
+    written-whole _ _ _ _ (is-good (z .before)) (omega (arith, z .length-of .ensures, y .if2 .left)) (c .before .before .whole .ensures)
 
 pub write-spec : {M : Type 1} → statement M
 write-spec =
     tie.close
     (tie.spec
     is-formed-requires
-    refused-requires
+    refusal-requires
     returns
     length-of-requires
-    refused-requires-2
+    refusal-requires-2
     returns-2
     whole-requires
     same-length

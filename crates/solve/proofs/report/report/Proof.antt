@@ -2,7 +2,8 @@
 use borrow.Author.Needs.{needs}
 use native.Mathlib.Omega.{arith}
 use Rattle.table.specs.Refusals.{noListWorks, overTheLimit, roomTooShort}
-use Rattle.solve.proofs.ReportLaws.{refused-told, tally-total, told-hopeless, told-over, told-short, answered-told}
+use Rattle.table.proofs.OutcomeLaws.{refused-told}
+use Rattle.solve.proofs.ReportLaws.{tally-total, told-hopeless, told-over, told-short, answered-told}
 use Rattle.solve.proofs.report.report.Statement.{statement}
 use Rattle.solve.proofs.report.report.Tie as tie
 
