@@ -12,9 +12,8 @@ use lib.Seq.{take-suc, take-length, ext-getD}
 use borrow.Author.Tests.{ltb-true, lt-ltb, le-ltb, eqb-true, eqb-false, eq-eqb}
 use Rattle.facts.specs.Sets.{width, has}
 use Rattle.facts.proofs.Laws.{same-sets}
-use Rattle.table.proofs.Bools.{both, both-true}
 use Rattle.table.proofs.Formation.{formed-well}
-use Rattle.table.proofs.FlagLaws.{same-flag}
+use Rattle.table.proofs.FlagLaws.{same-flag, both, and-both}
 use Rattle.table.proofs.OrderLaws.{isIn-append}
 use Rattle.table.proofs.RepairNumbers.{kindOf-lt, actionOf-lt, permitted-inside, permitted-number, permits-inside}
 use Rattle.table.proofs.RunLaws.{sameCourse-refl, right-same, right-valid, valid-right}
@@ -48,7 +47,7 @@ number-same g k a n hk = same-flag (ltb a maxActions && eqb (numberOf g k a) n) 
         let p = both (ltb a maxActions) (eqb (numberOf g k a) n) h in
         let ha = ltb-true a maxActions (p .0) in
         let e = eqb-true (numberOf g k a) n (p .1) in
-        both-true (both-true (eq-eqb k (kindOf n) (omega arith)) (eq-eqb a (actionOf n) (omega arith))) (eq-eqb g (factOf n) (omega arith))
+        and-both _ _ (and-both _ _ (eq-eqb k (kindOf n) (omega arith)) (eq-eqb a (actionOf n) (omega arith))) (eq-eqb g (factOf n) (omega arith))
 
     back : (eqb k (kindOf n) && eqb a (actionOf n) && eqb g (factOf n)) ≡ true → (ltb a maxActions && eqb (numberOf g k a) n) ≡ true
     back h =
@@ -57,7 +56,7 @@ number-same g k a n hk = same-flag (ltb a maxActions && eqb (numberOf g k a) n) 
         let ek = eqb-true k (kindOf n) (q .0) in
         let ea = eqb-true a (actionOf n) (q .1) in
         let eg = eqb-true g (factOf n) (p .1) in
-        both-true (lt-ltb a maxActions (omega (arith, actionOf-lt n))) (eq-eqb (numberOf g k a) n (omega arith))
+        and-both _ _ (lt-ltb a maxActions (omega (arith, actionOf-lt n))) (eq-eqb (numberOf g k a) n (omega arith))
 
 chosen-more : (l : List ℕ) (i g k a : ℕ) → i < length l → k < kinds
     → chosen (isIn (take (suc i) l)) g k a

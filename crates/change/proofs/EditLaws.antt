@@ -8,7 +8,7 @@ use lib.Dec.{eqb, ltb}
 use borrow.Author.Tests.{ltb-true, eqb-true, eq-eqb, ne-eqb}
 use Rattle.facts.specs.Sets.{width, has}
 use Rattle.table.proofs.AnswerLaws.{within-same}
-use Rattle.table.proofs.Bools.{both, both-true}
+use Rattle.table.proofs.FlagLaws.{both, and-both}
 use Rattle.table.specs.Answer.{Verdict, Within}
 use Rattle.table.specs.Repairs.{dropDelete, addEffect, dropNeed}
 use Rattle.table.specs.Sizes.{kinds}
@@ -43,7 +43,7 @@ module _ (t : Task) (w : WellFormed t) (a f : ℕ) (p : Bool) (k : ℕ) (hk : k 
   kind-sets : has (maskOf (kindSet (t .table) k a f p) k a) f ≡ p
   kind-sets =
       kind-value k a f hk ∙
-      ap (λ (b : Bool). cond b p (has (maskOf (t .table) k a) f)) (both-true (both-true (eq-eqb k k refl) (eq-eqb a a refl)) (eq-eqb f f refl))
+      ap (λ (b : Bool). cond b p (has (maskOf (t .table) k a) f)) (and-both _ _ (and-both _ _ (eq-eqb k k refl) (eq-eqb a a refl)) (eq-eqb f f refl))
 
   -- a cell of another fact or another action is as it was
   kind-keeps : (j b g : ℕ) → j < kinds → (g ≡ f → b ≡ a → ⊥) → has (maskOf (kindSet (t .table) k a f p) j b) g ≡ has (maskOf (t .table) j b) g

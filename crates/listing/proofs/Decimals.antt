@@ -4,7 +4,7 @@ use mathlib.Core.Path.{_≡_, refl}
 use Prim.Native.Nat.{ℕ, zero, suc, _+_, _-_, _*_, _/_, _%_, _≤_, _<_}
 use native.Mathlib.Omega.{arith}
 use lib.ListN.{getD}
-use Rattle.table.proofs.Bools.{by-order}
+use Rattle.table.proofs.FlagLaws.{by-order}
 use Rattle.listing.specs.Text.{digitZero, digits, decimal, mostDigits}
 use Rattle.listing.proofs.DigitLaws.{digits-last, digits-more}
 

@@ -26,14 +26,14 @@ use Rattle.table.specs.Outcomes.{Outcome, refused, given}
 use Rattle.table.proofs.Formation.{well-formed}
 use Rattle.table.specs.Answer.{Verdict, found}
 use Rattle.table.specs.Bench.{listingTask, strayTask, goalsAtStart, goalOutOfReach, addsAndDeletes, deletesTheGoal, needsLastFact, pairSteps, pairs}
-use Rattle.table.specs.Counting.{sumBelow, countBelow, firstWhere}
-use Rattle.table.specs.Join.{isHopeless, isOver, foundList, someBelow, joinLists, joinVerdicts}
+use Rattle.table.specs.Counting.{sumBelow, countBelow, firstWhere, everyBelow, someBelow}
+use Rattle.table.specs.Join.{isHopeless, isOver, foundList, joinLists, joinVerdicts}
 use Rattle.table.specs.Order.{isIn}
 use Rattle.table.specs.Refusals.{firstOf, bytesAfterEnd, notWellFormed}
 use Rattle.table.specs.Repairs.{permits, permitted, chosen}
 use Rattle.table.specs.Sizes.{maxFacts}
 use Rattle.table.specs.Strips.{stateAt}
-use Rattle.table.specs.Tasks.{cellsOf, courseOf, everyBelow, formed, sizesFormed, maskFormed, actionFormed, stepFormed, WellFormed}
+use Rattle.table.specs.Tasks.{cellsOf, courseOf, formed, sizesFormed, maskFormed, actionFormed, stepFormed, WellFormed}
 use Rattle.table.specs.declared.Task.{Task}
 use Rattle.taskfile.proofs.Function.{reads-total}
 use Rattle.taskfile.proofs.Unique.{reads-unique}

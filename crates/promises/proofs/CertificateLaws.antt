@@ -8,7 +8,8 @@ use native.Mathlib.Omega.{arith}
 use borrow.Author.Tests.{eqb-true, not-true}
 use Rattle.solve.specs.Solving.{told, Solves}
 use Rattle.solve.proofs.SolveLaws.{solve-unique}
-use Rattle.table.proofs.Bools.{both, both-true}
+use Rattle.table.specs.Counting.{everyBelow}
+use Rattle.table.proofs.FlagLaws.{both, and-both}
 use Rattle.table.proofs.Formation.{everyBelow-all, all-everyBelow, formed-well}
 use Rattle.table.proofs.JoinLaws.{permitted-none, join-for}
 use Rattle.table.proofs.OrderLaws.{compared, isIn-none, isIn-head, isIn-cases, ≼-none}
@@ -19,7 +20,7 @@ use Rattle.table.specs.Order.{isIn, _≼_}
 use Rattle.table.specs.Repairs.{permitted, repaired, factOf}
 use Rattle.table.specs.Sizes.{maxRow, perFact}
 use Rattle.table.specs.Strips.{Cells, Course, stateAt, Right}
-use Rattle.table.specs.Tasks.{cellsOf, courseOf, everyBelow, formed, Shaped, WellFormed, WorksFor}
+use Rattle.table.specs.Tasks.{cellsOf, courseOf, formed, Shaped, WellFormed, WorksFor}
 use Rattle.table.specs.declared.Task.{Task}
 use Rattle.promises.specs.Certificates.{isRight, isRightWith, mends, certifies, certified}
 use Rattle.promises.specs.Determined.{Only}
@@ -45,7 +46,7 @@ module _ (c : Cells) (r : Course) (f : ℕ) where
 
   right-with : (l : List ℕ) → Right (repaired c (isIn l)) r f → isRightWith c r f l ≡ true
   unfolding isRightWith isRight
-  right-with l h = both-true (all-everyBelow _ (r .count) (λ i low. implied _ _ (h .needed i low))) (implied _ _ (h .wanted))
+  right-with l h = and-both _ _ (all-everyBelow _ (r .count) (λ i low. implied _ _ (h .needed i low))) (implied _ _ (h .wanted))
 
   -- ---- a list of one repair
 
@@ -68,7 +69,7 @@ module _ (c : Cells) (r : Course) (f : ℕ) where
 
   keeps-mends : (y : ℕ) → Keeps c r f (y ∷ []) → mends c r f y ≡ true
   unfolding mends
-  keeps-mends y k = both-true (k .permitted .each y (isIn-head y [])) (right-with (y ∷ []) (k .right))
+  keeps-mends y k = and-both _ _ (k .permitted .each y (isIn-head y [])) (right-with (y ∷ []) (k .right))
 
   -- No list that keeps the fact right comes before the one repair.
   module _ (x : ℕ) (own : factOf x ≡ f) (wrong : not (isRightWith c r f []) ≡ true)

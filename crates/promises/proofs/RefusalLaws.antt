@@ -19,7 +19,7 @@ use Rattle.solve.specs.Solving.{told, Solves}
 use Rattle.table.specs.Outcomes.{Outcome, refused, answered, given}
 use Rattle.solve.specs.Tables.{rowAt}
 use Rattle.search.specs.Rows.{verdictIn}
-use Rattle.table.proofs.Bools.{by-order}
+use Rattle.table.proofs.FlagLaws.{by-order}
 use Rattle.table.proofs.OutcomeLaws.{given-keeps}
 use Rattle.table.specs.Answer.{Verdict, found, over, hopeless, Permitted}
 use Rattle.table.specs.Join.{joinVerdicts}

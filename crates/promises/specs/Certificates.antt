@@ -5,12 +5,13 @@ use mathlib.Core.List.{List, [], _∷_}
 use Prim.Native.Nat.{ℕ, _+_, _-_, _*_}
 use lib.Dec.{eqb}
 use lib.ListN.{length}
+use Rattle.table.specs.Counting.{everyBelow}
 use Rattle.table.specs.Answer.{Verdict, found, over, hopeless}
 use Rattle.table.specs.Order.{isIn}
 use Rattle.table.specs.Repairs.{permitted, repaired, factOf}
 use Rattle.table.specs.Sizes.{maxActions, maxSteps, perFact}
 use Rattle.table.specs.Strips.{Cells, Course, stateAt}
-use Rattle.table.specs.Tasks.{cellsOf, courseOf, everyBelow, formed}
+use Rattle.table.specs.Tasks.{cellsOf, courseOf, formed}
 use Rattle.table.specs.declared.Task.{Task}
 
 -- "present wherever it is needed, and at the end if it is a goal"

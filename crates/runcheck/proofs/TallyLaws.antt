@@ -17,7 +17,7 @@ use Rattle.table.specs.Sizes.{maxFacts}
 use Rattle.table.specs.Strips.{Cells, Course, stateAt}
 use Rattle.table.specs.Tasks.{WellFormed, cellsOf, courseOf, formed, maskOf}
 use Rattle.table.specs.declared.Task.{Task}
-use Rattle.table.proofs.Bools.{by-order}
+use Rattle.table.proofs.FlagLaws.{by-order}
 use Rattle.table.proofs.CountingLaws.{
   sumBelow-next,
   sumBelow-zero,

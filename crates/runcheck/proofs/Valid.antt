@@ -10,7 +10,7 @@ use Rattle.table.specs.Join.{Inside}
 use Rattle.table.specs.Strips.{Cells, Course, Valid, stateAt}
 use Rattle.table.specs.Tasks.{WellFormed, cellsOf, courseOf}
 use Rattle.table.specs.declared.Task.{Task}
-use Rattle.table.proofs.Bools.{by-order}
+use Rattle.table.proofs.FlagLaws.{by-order}
 use Rattle.table.proofs.CountingLaws.{sumBelow-zero, zero-sumBelow, countBelow-zero, zero-countBelow}
 use Rattle.table.proofs.Formation.{well-formed}
 use Rattle.table.proofs.JoinLaws.{formed-inside}

@@ -13,15 +13,16 @@ use borrow.Author.Tests.{lt-ltb, le-ltb, le-leb, lt-leb, eq-eqb, eqb-true, leb-t
 use Rattle.change.proofs.MemberLaws.{getD-isIn, ascending-steps}
 use Rattle.search.specs.Rows.{rowOver, rowHopeless, rowOf, RightRow}
 use Rattle.solve.specs.Tables.{rowAt, repairsIn, Stored, Readable}
+use Rattle.table.specs.Counting.{everyBelow}
 use Rattle.table.proofs.AnswerLaws.{first-unique}
-use Rattle.table.proofs.Bools.{both, both-true, right-true, by-order}
+use Rattle.table.proofs.FlagLaws.{both, and-both, or-right, by-order}
 use Rattle.table.proofs.Formation.{all-everyBelow, everyBelow-all}
 use Rattle.table.proofs.JoinLaws.{keepsFor-outside}
 use Rattle.table.specs.Answer.{Verdict, found, over, hopeless, Within, Keeps, First}
 use Rattle.table.specs.Repairs.{permitted, factOf}
 use Rattle.table.specs.Sizes.{maxFacts, maxRow, sessionPlaces, unused}
 use Rattle.table.specs.Strips.{Cells, Course}
-use Rattle.table.specs.Tasks.{cellsOf, courseOf, everyBelow, KeepsFor, WellFormed}
+use Rattle.table.specs.Tasks.{cellsOf, courseOf, KeepsFor, WellFormed}
 use Rattle.table.specs.declared.Task.{Task}
 use Rattle.session.specs.Sessions.{repairInForm, placeInForm, rowInForm, inForm}
 
@@ -48,13 +49,13 @@ module _ (c : Cells) (r : Course) (f : ℕ) (l : List ℕ) (keeps : Keeps c r f 
       let e : getD (length l ∷ (l ++ rest)) (i + 1) 0 ≡ getD l i 0 = getD-after (length l) (l ++ rest) i ∙ List·getD-append l rest 0 i h in
       let here = getD-isIn l i h in
       rw e
-      (both-true (both-true (keeps .permitted .each (getD l i 0) here) (eq-eqb (factOf (getD l i 0)) f (keeps .own (getD l i 0) here)))
+      (and-both _ _ (and-both _ _ (keeps .permitted .each (getD l i 0) here) (eq-eqb (factOf (getD l i 0)) f (keeps .own (getD l i 0) here)))
       (above i h))
     where
       above : (i : ℕ) → i < length l → (eqb i 0 || ltb (getD (length l ∷ (l ++ rest)) i 0) (getD l i 0)) ≡ true
       above zero h = refl
       above (suc j) h =
-          right-true (eqb (suc j) 0)
+          or-right (eqb (suc j) 0) _
           (rw (List·getD-append l rest 0 j (omega arith)) (lt-ltb (getD l j 0) (getD l (suc j) 0) (ascending-steps 0 l (keeps .permitted .ascending) j h)))
 
   -- Every place of such a list's row: its repairs, then the unused places.
@@ -73,7 +74,7 @@ module _ (c : Cells) (r : Course) (f : ℕ) (l : List ℕ) (keeps : Keeps c r f 
 stuck-in-form : (c : Cells) (f n : ℕ) → maxRow < n → n ≤ rowHopeless → f < c .facts → rowInForm c f (n ∷ replicate maxRow unused) ≡ true
 unfolding rowInForm placeInForm repairsIn
 stuck-in-form c f n low high inside =
-    both-true (both-true (le-leb n rowHopeless high) (rw (lt-ltb f (c .facts) inside)))
+    and-both _ _ (and-both _ _ (le-leb n rowHopeless high) (rw (lt-ltb f (c .facts) inside)))
     (all-everyBelow (placeInForm c f (n ∷ replicate maxRow unused)) maxRow (λ i h.
     rw (lt-leb n maxRow low, le-ltb i 0 (omega arith))
     (eq-eqb (getD (n ∷ replicate maxRow unused) (i + 1) 0) unused
@@ -84,7 +85,7 @@ module _ (t : Task) (w : WellFormed t) (f : ℕ) where
   fact-or-none : (l : List ℕ) → First (KeepsFor t f) l → (ltb f (t .table .facts) || eqb (length l) 0) ≡ true
   fact-or-none l first =
       by-order f (t .table .facts) (λ (h : f < t .table .facts). rw (lt-ltb f (t .table .facts) h)) (λ (h : t .table .facts ≤ f).
-      right-true (ltb f (t .table .facts))
+      or-right (ltb f (t .table .facts)) _
       (eq-eqb (length l) 0 (ap length (first-unique (KeepsFor t f) l [] first (keepsFor-outside t w f h)))))
 
   -- A fact without a list of at most six is a fact of the task.
@@ -97,7 +98,7 @@ module _ (t : Task) (w : WellFormed t) (f : ℕ) where
   unfolding rowInForm rowOf cellsOf
   verdict-in-form (found l) p =
       let row : List ℕ = length l ∷ (l ++ replicate (maxRow - length l) unused) in
-      both-true (both-true (le-leb (length l) rowHopeless (omega (arith, p .1))) (fact-or-none l (p .0)))
+      and-both _ _ (and-both _ _ (le-leb (length l) rowHopeless (omega (arith, p .1))) (fact-or-none l (p .0)))
       (all-everyBelow (placeInForm (cellsOf (t .table)) f row) maxRow
       (found-place (cellsOf (t .table)) (courseOf (t .run)) f l (p .0 .member) (replicate (maxRow - length l) unused) refl (p .1)))
   verdict-in-form over p =
@@ -113,7 +114,7 @@ module _ (t : Task) (w : WellFormed t) (f : ℕ) where
 pub stored-in-form : (t : Task) → WellFormed t → (s : List ℕ) → Stored t s → inForm t s ≡ true
 unfolding inForm
 stored-in-form t w s b =
-    both-true (eq-eqb (length s) sessionPlaces (b .places))
+    and-both _ _ (eq-eqb (length s) sessionPlaces (b .places))
     (all-everyBelow (λ f. rowInForm (cellsOf (t .table)) f (rowAt s f)) maxFacts (λ f h. right-in-form t w f (rowAt s f) (b .rows f h)))
 
 -- ---- what the test tells a caller

@@ -6,10 +6,11 @@ use lib.Dec.{eqb, leb, ltb}
 use lib.ListN.{length, getD}
 use Rattle.search.specs.Rows.{rowHopeless}
 use Rattle.solve.specs.Tables.{rowAt, repairsIn}
+use Rattle.table.specs.Counting.{everyBelow}
 use Rattle.table.specs.Repairs.{permitted, factOf}
 use Rattle.table.specs.Sizes.{maxFacts, maxRow, sessionPlaces, unused}
 use Rattle.table.specs.Strips.{Cells}
-use Rattle.table.specs.Tasks.{everyBelow, cellsOf}
+use Rattle.table.specs.Tasks.{cellsOf}
 use Rattle.table.specs.declared.Task.{Task}
 
 -- The i-th repair of the row of fact f: permitted, of its own fact, and above the one before.

@@ -15,8 +15,9 @@ ghost use mathlib.Core.Path.{_≡_};
 ghost use Prim.Native.Nat.{_+_, _*_, _<_};
 ghost use lib.ListN.{length, getD};
 ghost use Rattle.solve.specs.Tables.{rowAt};
+ghost use Rattle.table.specs.Counting.{everyBelow};
 ghost use Rattle.table.specs.Sizes.{maxFacts, maxRow, sessionPlaces};
-ghost use Rattle.table.specs.Tasks.{cellsOf, everyBelow};
+ghost use Rattle.table.specs.Tasks.{cellsOf};
 ghost use Rattle.session.specs.Sessions.{repairInForm, placeInForm, rowInForm, inForm};
 
 // A number of a fact's row.

@@ -15,8 +15,7 @@ use Rattle.table.specs.Order.{Ascending, AscendingFrom, isIn}
 use Rattle.table.specs.Repairs.{permits, permitted, chosen, repaired, numberOf, factOf, addEffect, dropNeed}
 use Rattle.table.specs.Sizes.{maxActions, kinds, perFact}
 use Rattle.table.specs.Strips.{Cells, Course, Right, stateAt}
-use Rattle.table.proofs.Bools.{by-order}
-use Rattle.table.proofs.FlagLaws.{and-left, and-right, and-both, or-left, or-right}
+use Rattle.table.proofs.FlagLaws.{and-left, and-right, and-both, or-left, or-right, by-order}
 use Rattle.table.proofs.JoinLaws.{keepsBelow-none, join-keeps, keepsBelow-works}
 use Rattle.table.proofs.OrderLaws.{isIn-none, isIn-head, isIn-cases, isIn-left, isIn-right, isIn-either, ascending-append}
 use Rattle.table.proofs.RepairNumbers.{inside-permits, permitted-number}

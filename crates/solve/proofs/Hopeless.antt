@@ -8,8 +8,8 @@ use borrow.Author.Tests.{not-true, not-false}
 use lib.Dec.{ltb}
 use lib.ListN.{length}
 use Rattle.facts.specs.Sets.{has}
+use Rattle.table.specs.Counting.{someBelow}
 use Rattle.table.specs.Answer.{Verdict, found, over, hopeless, Works, Within}
-use Rattle.table.specs.Join.{someBelow}
 use Rattle.table.specs.Order.{isIn}
 use Rattle.table.specs.Refusals.{noListWorks, roomTooShort}
 use Rattle.table.specs.Repairs.{repaired}
@@ -17,8 +17,7 @@ use Rattle.table.specs.Strips.{Right, stateAt}
 use Rattle.table.specs.Tasks.{cellsOf, courseOf, WorksFor, WellFormed}
 use Rattle.table.specs.declared.Task.{Task}
 use Rattle.table.proofs.AnswerLaws.{within-unique}
-use Rattle.table.proofs.Bools.{by-order, both}
-use Rattle.table.proofs.FlagLaws.{or-neither}
+use Rattle.table.proofs.FlagLaws.{or-neither, by-order, both}
 use Rattle.table.proofs.Formation.{well-formed}
 use Rattle.table.proofs.JoinLaws.{formed-inside, permitted-none}
 use Rattle.table.proofs.RunLaws.{right-valid, stateAt-first}

@@ -10,11 +10,12 @@ use lib.ListN.{length, getD, take, drop, length-append, length-drop}
 use lib.Seq.{getD-take, getD-drop, ext-getD, length-take-le, take-append-seam, drop-append-add, drop-drop}
 use borrow.Author.Tests.{eqb-true, eqb-false, leb-true, leb-false, le-leb, lt-leb, lt-ltb, le-ltb}
 use Rattle.search.specs.Rows.{rowOver, rowHopeless, verdictIn}
+use Rattle.table.specs.Counting.{someBelow}
 use Rattle.table.specs.Answer.{Verdict, found, over, hopeless}
-use Rattle.table.specs.Join.{isHopeless, isOver, foundList, someBelow, joinLists, joinVerdicts}
+use Rattle.table.specs.Join.{isHopeless, isOver, foundList, joinLists, joinVerdicts}
 use Rattle.table.specs.Refusals.{accepted, noListWorks, overTheLimit, roomTooShort}
 use Rattle.table.specs.Sizes.{maxFacts, maxRow, rowPlaces, sessionPlaces}
-use Rattle.table.proofs.Bools.{by-order}
+use Rattle.table.proofs.FlagLaws.{by-order}
 use Rattle.table.proofs.JoinLaws.{someBelow-first, someBelow-next, joinLists-first, joinLists-next}
 use Rattle.table.specs.declared.Reply.{Reply}
 use Rattle.solve.specs.Copies.{pasted}

@@ -17,7 +17,7 @@ use Rattle.table.specs.Sizes.{maxFacts, maxRow, rowPlaces, sessionPlaces, unuse
 use Rattle.table.specs.Tasks.{WorksFor, KeepsFor, WellFormed}
 use Rattle.table.specs.declared.Task.{Task}
 use Rattle.table.proofs.AnswerLaws.{within-unique}
-use Rattle.table.proofs.Bools.{by-order}
+use Rattle.table.proofs.FlagLaws.{by-order}
 use Rattle.table.proofs.JoinLaws.{join-for}
 use Rattle.solve.specs.Copies.{pasted}
 use Rattle.solve.specs.Tables.{rowAt, verdictAt, Stored, Rewritten, Readable}

@@ -2,7 +2,8 @@
 use mathlib.Core.List.{List}
 use Prim.Native.Nat.{ℕ}
 use lib.ListN.{length}
-use Rattle.table.specs.Join.{isHopeless, isOver, someBelow, joinLists}
+use Rattle.table.specs.Counting.{someBelow}
+use Rattle.table.specs.Join.{isHopeless, isOver, joinLists}
 use Rattle.solve.specs.Tables.{verdictAt}
 use Rattle.solve.specs.declared.report.Tally.{Tally}
 

@@ -14,7 +14,7 @@ use Rattle.facts.specs.Sets.{width, has, count, lowest, sumBits}
 use Rattle.facts.proofs.Counting.{bit-has, count-sum, lowest-has, lowest-first}
 use Rattle.facts.proofs.Laws.{has-above, within-below, lt-within}
 use Rattle.table.specs.Counting.{sumBelow, countBelow, firstWhere}
-use Rattle.table.proofs.Bools.{by-order}
+use Rattle.table.proofs.FlagLaws.{by-order}
 
 -- ---- sums
 

@@ -1,7 +1,10 @@
--- Laws of flags: when a join, a meeting or a denial of flags is true.
+-- Laws of flags: when a join, a meeting or a denial of flags is true; and a choice by the order of two numbers.
 use mathlib.Core.Bool.{Bool, true, false, not, _&&_, _||_, false≢true}
 use mathlib.Core.Logic.{_⊎_, inl, inr}
 use mathlib.Core.Path.{_≡_, refl, sym, ap, _∙_}
+use Prim.Native.Nat.{ℕ, _<_, _≤_}
+use lib.Dec.{ltb}
+use borrow.Author.Tests.{ltb-true, ltb-false}
 
 pub or-cases : (a b : Bool) → (a || b) ≡ true → (a ≡ true) ⊎ (b ≡ true)
 or-cases true b h = inl refl
@@ -15,6 +18,9 @@ pub or-right : (a b : Bool) → b ≡ true → (a || b) ≡ true
 or-right true b h = refl
 or-right false b h = h
 
+pub or-other : {a b : Bool} → (a || b) ≡ true → a ≡ false → b ≡ true
+or-other h p = rw p at h
+
 pub or-neither : (a b : Bool) → (a || b) ≡ false → (a ≡ false) × (b ≡ false)
 or-neither true b h = absurd (false≢true (sym h))
 or-neither false b h = (refl, h)
@@ -26,6 +32,9 @@ and-left false b h = h
 pub and-right : (a b : Bool) → (a && b) ≡ true → b ≡ true
 and-right true b h = h
 and-right false b h = absurd (false≢true h)
+
+pub both : (a b : Bool) → (a && b) ≡ true → (a ≡ true) × (b ≡ true)
+both a b h = (and-left a b h, and-right a b h)
 
 pub and-both : (a b : Bool) → a ≡ true → b ≡ true → (a && b) ≡ true
 and-both true b h k = k
@@ -54,3 +63,10 @@ same-flag false false there back = refl
 pub is-false : (a : Bool) → (a ≡ true → ⊥) → a ≡ false
 is-false true h = absurd (h refl)
 is-false false h = refl
+
+pub by-order {ℓ} : {C : Type ℓ} (a b : ℕ) → (a < b → C) → (b ≤ a → C) → C
+by-order {C} a b f g = go (ltb a b) refl
+  where
+    go : (t : Bool) → ltb a b ≡ t → C
+    go true e = f (ltb-true a b e)
+    go false e = g (ltb-false a b e)

@@ -13,12 +13,13 @@ use lib.Pow.{pow-mono}
 use borrow.Author.Tests.{ltb-true, leb-true, eqb-true, lt-ltb, le-ltb, le-leb, eq-eqb, not-true, not-false}
 use Rattle.facts.specs.Sets.{has, within}
 use Rattle.facts.proofs.Laws.{has-empty, within-has, has-within, within-lt}
+use Rattle.table.specs.Counting.{everyBelow}
 use Rattle.table.specs.Sizes.{maxFacts, maxActions, maxSteps, maxLimit}
 use Rattle.table.specs.Repairs.{byKind, dropDelete, addEffect, dropNeed}
-use Rattle.table.specs.Tasks.{maskOf, everyBelow, sizesFormed, maskFormed, actionFormed, stepFormed, formed, Shaped, WellFormed}
+use Rattle.table.specs.Tasks.{maskOf, sizesFormed, maskFormed, actionFormed, stepFormed, formed, Shaped, WellFormed}
 use Rattle.table.specs.declared.Table.{Table}
 use Rattle.table.specs.declared.Task.{Task}
-use Rattle.table.proofs.Bools.{both, both-true, right-true, right-holds, by-order}
+use Rattle.table.proofs.FlagLaws.{both, and-both, or-right, or-other, by-order}
 
 -- ---- what holds of every number below n
 
@@ -51,7 +52,7 @@ everyBelow-all p (suc n) h i l =
 pub all-everyBelow : (p : ℕ → Bool) (n : ℕ) → ((i : ℕ) → i < n → p i ≡ true) → everyBelow p n ≡ true
 unfolding everyBelow
 all-everyBelow p zero h = refl
-all-everyBelow p (suc n) h = both-true (all-everyBelow p n (λ i l. h i (omega arith))) (h n (omega arith))
+all-everyBelow p (suc n) h = and-both _ _ (all-everyBelow p n (λ i l. h i (omega arith))) (h n (omega arith))
 
 -- ---- one law for the three masks of an action
 
@@ -70,7 +71,7 @@ mask-in : (t : Table) (a m : ℕ) → maskFormed t a m ≡ true → MaskIn t a m
 unfolding maskFormed MaskIn
 mask-in t a m h =
     let p = both (within m (t .facts)) (ltb a (t .actions) || eqb m 0) h in
-    (λ f l. within-has m (t .facts) f (p .0) l, λ l. eqb-true m 0 (right-holds (p .1) (le-ltb a (t .actions) l)))
+    (λ f l. within-has m (t .facts) f (p .0) l, λ l. eqb-true m 0 (or-other (p .1) (le-ltb a (t .actions) l)))
 
 -- past the declared length of the arrays every mask is empty
 mask-past : (t : Task) → Shaped t → (k a : ℕ) → maxActions ≤ a → MaskIn (t .table) a (maskOf (t .table) k a)
@@ -138,7 +139,7 @@ unfolding stepFormed StepIn
 step-in t i h =
     let a = getD (t .run .steps) i 0 in
     let p = both (ltb a (t .table .actions)) (ltb i (t .run .count) || eqb a 0) h in
-    (ltb-true a (t .table .actions) (p .0), λ l. eqb-true a 0 (right-holds (p .1) (le-ltb i (t .run .count) l)))
+    (ltb-true a (t .table .actions) (p .0), λ l. eqb-true a 0 (or-other (p .1) (le-ltb i (t .run .count) l)))
 
 steps-in : (t : Task) → Shaped t → 0 < t .table .actions → everyBelow (stepFormed t) maxSteps ≡ true → (i : ℕ) → StepIn t i
 unfolding StepIn
@@ -215,7 +216,7 @@ goal-lt t w = inside-lt t w (t .run .goal) (w .goal-inside)
 -- ---- the named parts give the test
 
 unused-or : (a n m : ℕ) → (n ≤ a → m ≡ 0) → (ltb a n || eqb m 0) ≡ true
-unused-or a n m h = by-order a n (λ l. rw (lt-ltb a n l)) (λ l. right-true (ltb a n) (eq-eqb m 0 (h l)))
+unused-or a n m h = by-order a n (λ l. rw (lt-ltb a n l)) (λ l. or-right (ltb a n) _ (eq-eqb m 0 (h l)))
 
 pub well-formed : (t : Task) → WellFormed t → formed t ≡ true
 unfolding formed sizesFormed actionFormed maskFormed stepFormed
@@ -223,17 +224,17 @@ well-formed t w =
     let F = t .table .facts in
     let A = t .table .actions in
     let mask : (k a : ℕ) → maskFormed (t .table) a (maskOf (t .table) k a) ≡ true =
-    λ k a. both-true (has-within (maskOf (t .table) k a) F (w .inside k a)) (unused-or a A (maskOf (t .table) k a) (w .actions-unused k a)) in
+    λ k a. and-both _ _ (has-within (maskOf (t .table) k a) F (w .inside k a)) (unused-or a A (maskOf (t .table) k a) (w .actions-unused k a)) in
     let step : (i : ℕ) → stepFormed t i ≡ true =
-    λ i. both-true (lt-ltb (getD (t .run .steps) i 0) A (step-below t w i)) (unused-or i (t .run .count) (getD (t .run .steps) i 0) (w .steps-unused i)) in
-    both-true
-    (both-true
-    (both-true
-    (both-true
-    (both-true (both-true (lt-ltb 0 F (w .facts-low)) (le-leb F maxFacts (w .facts-high))) (both-true (lt-ltb 0 A (w .actions-low)) (le-leb A maxActions (w .actions-high))))
-    (both-true (le-leb (t .table .limit) maxLimit (w .limit-high)) (le-leb (t .run .count) maxSteps (w .count-high))))
-    (all-everyBelow (actionFormed (t .table)) maxActions (λ a l. both-true (both-true (mask dropNeed a) (mask addEffect a)) (mask dropDelete a))))
-    (both-true (has-within (t .run .start) F (w .start-inside)) (has-within (t .run .goal) F (w .goal-inside))))
+    λ i. and-both _ _ (lt-ltb (getD (t .run .steps) i 0) A (step-below t w i)) (unused-or i (t .run .count) (getD (t .run .steps) i 0) (w .steps-unused i)) in
+    and-both _ _
+    (and-both _ _
+    (and-both _ _
+    (and-both _ _
+    (and-both _ _ (and-both _ _ (lt-ltb 0 F (w .facts-low)) (le-leb F maxFacts (w .facts-high))) (and-both _ _ (lt-ltb 0 A (w .actions-low)) (le-leb A maxActions (w .actions-high))))
+    (and-both _ _ (le-leb (t .table .limit) maxLimit (w .limit-high)) (le-leb (t .run .count) maxSteps (w .count-high))))
+    (all-everyBelow (actionFormed (t .table)) maxActions (λ a l. and-both _ _ (and-both _ _ (mask dropNeed a) (mask addEffect a)) (mask dropDelete a))))
+    (and-both _ _ (has-within (t .run .start) F (w .start-inside)) (has-within (t .run .goal) F (w .goal-inside))))
     (all-everyBelow (stepFormed t) maxSteps (λ i l. step i))
 
 -- ---- what a caller knows after `if !is_formed(t) { return .. }`: past it, and in it

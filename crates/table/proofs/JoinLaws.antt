@@ -10,13 +10,14 @@ use native.Mathlib.Omega.{arith}
 use borrow.Author.Tests.{ltb-true, ltb-false}
 use lib.Dec.{ltb}
 use lib.ListN.{length, length-append}
+use Rattle.table.specs.Counting.{someBelow}
 use Rattle.table.proofs.AnswerLaws.{within-same, permitted-fact, permitted-part, permitted-append, hopeless-none, hopeful-some, over-longer, neither-first}
 use Rattle.table.proofs.FlagLaws.{or-cases, or-neither}
 use Rattle.table.proofs.OrderLaws.{isIn-none, isIn-left, isIn-right, isIn-either, ascending-weaken, ≼-none, ≼-length, ≼-append, Split, split-at, split-left-in, split-right-in, split-either}
 use Rattle.table.proofs.RepairLaws.{right-of-part, right-of-whole}
 use Rattle.table.proofs.RunLaws.{valid-right, right-valid}
 use Rattle.table.specs.Answer.{Permitted, Works, Keeps, First, Verdict, found, over, hopeless, Within}
-use Rattle.table.specs.Join.{KeepsBelow, Inside, isHopeless, isOver, foundList, someBelow, joinLists, joinVerdicts}
+use Rattle.table.specs.Join.{KeepsBelow, Inside, isHopeless, isOver, foundList, joinLists, joinVerdicts}
 use Rattle.table.specs.Order.{isIn, _≼_}
 use Rattle.table.specs.Repairs.{dropNeed, repaired, factOf}
 use Rattle.table.specs.Sizes.{perFact}

@@ -2,7 +2,6 @@
 -- and the answer, of tasks, of repair numbers, and of what is given into lent room.
 pub mod FlagLaws
 pub mod OutcomeLaws
-pub mod Bools
 pub mod CountingLaws
 pub mod GatherLaws
 pub mod OrderLaws

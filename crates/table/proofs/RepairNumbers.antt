@@ -9,7 +9,7 @@ use borrow.Author.Tests.{ltb-true, lt-ltb, le-ltb}
 use Rattle.table.specs.Sizes.{maxFacts, maxActions, kinds, lastRepair, unused}
 use Rattle.table.specs.Strips.{Cells}
 use Rattle.table.specs.Repairs.{byKind, numberOf, factOf, kindOf, actionOf, numbered, permits, permitted}
-use Rattle.table.proofs.Bools.{both, both-true}
+use Rattle.table.proofs.FlagLaws.{both, and-both}
 
 -- ---- the number and back
 
@@ -69,7 +69,7 @@ pub inside-permits : (c : Cells) (f k a : ℕ)
     → byKind k (c .deletes a f) (not (c .adds a f)) (c .needs a f) ≡ true
     → permits c f k a ≡ true
 unfolding permits
-inside-permits c f k a hf ha h = both-true (both-true (lt-ltb f (c .facts) hf) (lt-ltb a (c .actions) ha)) h
+inside-permits c f k a hf ha h = and-both _ _ (and-both _ _ (lt-ltb f (c .facts) hf) (lt-ltb a (c .actions) ha)) h
 
 pub permitted-permits : (c : Cells) (n : ℕ) → permitted c n ≡ permits c (factOf n) (kindOf n) (actionOf n)
 unfolding permitted

@@ -1,7 +1,17 @@
--- Sums, counts and the first place where a test holds.
-use mathlib.Core.Bool.{Bool, cond}
+-- Tests of the numbers below a bound: whether all or some pass, how many do, which is the first; and sums.
+use mathlib.Core.Bool.{Bool, true, false, _&&_, _||_, cond}
 use Prim.Native.Nat.{ℕ, zero, suc, _+_}
 use lib.Dec.{eqb}
+
+-- Every number below n passes the test.
+unfoldable pub everyBelow : (ℕ → Bool) → ℕ → Bool
+everyBelow p zero = true
+everyBelow p (suc n) = everyBelow p n && p n
+
+-- Some number below n passes it.
+unfoldable pub someBelow : (ℕ → Bool) → ℕ → Bool
+someBelow p zero = false
+someBelow p (suc n) = someBelow p n || p n
 
 -- g 0 + g 1 + .. + g (n - 1)
 unfoldable pub sumBelow : (ℕ → ℕ) → ℕ → ℕ

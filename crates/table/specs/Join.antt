@@ -5,6 +5,7 @@ use mathlib.Core.Path.{_≡_}
 use Prim.Native.Nat.{ℕ, zero, suc, _<_, _≤_}
 use lib.Dec.{ltb}
 use lib.ListN.{length}
+use Rattle.table.specs.Counting.{someBelow}
 use Rattle.table.specs.Answer.{Permitted, Verdict, found, over, hopeless}
 use Rattle.table.specs.Order.{isIn}
 use Rattle.table.specs.Repairs.{repaired, factOf}
@@ -36,11 +37,6 @@ unfoldable pub foundList : Verdict → List ℕ
 foundList (found l) = l
 foundList over = []
 foundList hopeless = []
-
--- p holds of some number below n.
-unfoldable pub someBelow : (ℕ → Bool) → ℕ → Bool
-someBelow p zero = false
-someBelow p (suc n) = someBelow p n || p n
 
 -- The lists of the facts below n, in order of fact.
 unfoldable pub joinLists : (ℕ → Verdict) → ℕ → List ℕ

@@ -1,11 +1,12 @@
 -- Which sets and which run a task of the code stands for, and when a task is well formed: document 01, "Sizes".
-use mathlib.Core.Bool.{Bool, true, false, _&&_, _||_}
+use mathlib.Core.Bool.{Bool, false, _&&_, _||_}
 use mathlib.Core.List.{List}
 use mathlib.Core.Path.{_≡_}
-use Prim.Native.Nat.{ℕ, zero, suc, _<_, _≤_}
+use Prim.Native.Nat.{ℕ, _<_, _≤_}
 use lib.Dec.{eqb, leb, ltb}
 use lib.ListN.{length, getD}
 use Rattle.facts.specs.Sets.{has, within}
+use Rattle.table.specs.Counting.{everyBelow}
 use Rattle.table.specs.Sizes.{maxFacts, maxActions, maxSteps, maxLimit}
 use Rattle.table.specs.Repairs.{byKind}
 use Rattle.table.specs.Strips.{Cells, Course}
@@ -42,11 +43,6 @@ KeepsFor t f = Keeps (cellsOf (t .table)) (courseOf (t .run)) f
 -- The mask of deletes, adds or needs of action a, by the kind of repair that concerns it.
 abbrev pub maskOf : Table → ℕ → ℕ → ℕ
 maskOf t k a = byKind k (getD (t .deletes) a 0) (getD (t .adds) a 0) (getD (t .needs) a 0)
-
--- p holds of every number below n.
-unfoldable pub everyBelow : (ℕ → Bool) → ℕ → Bool
-everyBelow p zero = true
-everyBelow p (suc i) = everyBelow p i && p i
 
 -- "its sizes are in range"
 unfoldable pub sizesFormed : Task → Bool

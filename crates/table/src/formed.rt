@@ -10,8 +10,9 @@ ghost use mathlib.Core.Path.{_≡_};
 ghost use Prim.Native.Nat.{_<_};
 ghost use lib.Dec.{ltb, eqb};
 ghost use Rattle.facts.specs.Sets.{within};
+ghost use Rattle.table.specs.Counting.{everyBelow};
 ghost use Rattle.table.specs.Sizes.{maxActions, maxSteps};
-ghost use Rattle.table.specs.Tasks.{formed, sizesFormed, actionFormed, stepFormed, everyBelow};
+ghost use Rattle.table.specs.Tasks.{formed, sizesFormed, actionFormed, stepFormed};
 
 // "its sizes are in range"
 fn are_sizes_formed(t: Task) -> bool

@@ -19,7 +19,7 @@ use Rattle.taskfile.proofs.Ranks.{slots, rank, pieceAt, file-by-rank, n
 use Rattle.taskfile.proofs.Fitting.{Told, told, slotOf, record-length}
 use Rattle.taskfile.proofs.OneMore.{taskAfter}
 use Rattle.taskfile.proofs.RecordsAfter.{piece-after}
-use Rattle.table.proofs.Bools.{by-order}
+use Rattle.table.proofs.FlagLaws.{by-order}
 use Rattle.taskfile.proofs.Standing.{Standing, good-next}
 use Rattle.taskfile.proofs.FirstRecord.{bareTask, bareSeen, seen-first, stands-first}
 use Rattle.taskfile.proofs.GoodRecord.{clear-later, clear-end, clear-first}

@@ -12,7 +12,7 @@ use Rattle.facts.proofs.Laws.{has-empty}
 use Rattle.table.specs.Sizes.{maxFacts, maxActions, maxSteps, maxLimit}
 use Rattle.table.specs.Lists.{piece}
 use Rattle.table.specs.Tasks.{maskOf, WellFormed}
-use Rattle.table.proofs.Bools.{both}
+use Rattle.table.proofs.FlagLaws.{both}
 use Rattle.table.proofs.Formation.{byKind-all}
 use Rattle.table.specs.declared.Task.{Task}
 use Rattle.taskfile.specs.Format.{sizesKind, startKind, deleteKind}

@@ -17,7 +17,7 @@ use Rattle.taskfile.specs.Reading.{byteRoom, Seen}
 use Rattle.taskfile.proofs.Ranks.{slots, rank, factSet, cellSet, factPiece, cellPiece, pieceAt, sizes-once, step-shape, some-step, no-step}
 use Rattle.taskfile.proofs.Families.{FactKind, CellKind, Family, ofNone, ofSizes, ofFact, ofCell, ofStep, family}
 use Rattle.taskfile.proofs.Fitting.{Fits, factFits, cellFits, stepFits, told, slotOf, recordBytes, fact-bytes, cell-bytes, step-bytes}
-use Rattle.table.proofs.Bools.{by-order}
+use Rattle.table.proofs.FlagLaws.{by-order}
 use Rattle.taskfile.proofs.Standing.{Standing}
 use Rattle.taskfile.proofs.SameTask.{SameSizes}
 

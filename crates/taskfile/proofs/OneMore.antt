@@ -10,7 +10,7 @@ use lib.Seq.{getD-set-same, getD-set-other}
 use borrow.Author.Tests.{eqb-true, eqb-false, ne-eqb}
 use Rattle.facts.specs.Sets.{width, has, joined, only}
 use Rattle.facts.proofs.Laws.{has-joined, has-only}
-use Rattle.table.proofs.Bools.{both}
+use Rattle.table.proofs.FlagLaws.{both}
 use Rattle.table.specs.Repairs.{byKind, dropDelete, addEffect}
 use Rattle.table.specs.Sizes.{maxActions, maxSteps}
 use Rattle.table.specs.Tasks.{maskOf, Shaped, WellFormed}

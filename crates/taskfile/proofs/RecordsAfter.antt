@@ -8,7 +8,7 @@ use lib.Dec.{eqb, ltb}
 use lib.ListN.{getD}
 use borrow.Author.Tests.{eqb-true, eqb-false, eq-eqb, ne-eqb, lt-ltb, le-ltb, ltb-true, ltb-false}
 use Rattle.facts.specs.Sets.{width, has}
-use Rattle.table.proofs.Bools.{both, both-true}
+use Rattle.table.proofs.FlagLaws.{both, and-both}
 use Rattle.table.specs.Lists.{piece}
 use Rattle.table.specs.Tasks.{WellFormed}
 use Rattle.table.specs.declared.Task.{Task}
@@ -65,7 +65,7 @@ module _ (t : Task) (k x y z : ℕ) (formed : WellFormed t) (told : Told t k x y
       back e =
           let same : k ≡ r / slots = omega arith in
           let slot = told .fact-slot (omega arith) in
-          both-true (eq-eqb k (r / slots) same) (eq-eqb (r % slots) x (omega arith))
+          and-both _ _ (eq-eqb k (r / slots) same) (eq-eqb (r % slots) x (omega arith))
 
   cell-after : (r : ℕ) → CellKind (r / slots) → After r
   unfolding taskAfter cellPiece
@@ -112,7 +112,7 @@ module _ (t : Task) (k x y z : ℕ) (formed : WellFormed t) (told : Told t k x y
           let slot = told .cell-slot low high in
           let less = told .cell low high in
           let most = formed .facts-high in
-          both-true (both-true (eq-eqb k (r / slots) same) (eq-eqb a x (omega arith))) (eq-eqb f y (omega arith))
+          and-both _ _ (and-both _ _ (eq-eqb k (r / slots) same) (eq-eqb a x (omega arith))) (eq-eqb f y (omega arith))
 
   step-after : (r : ℕ) → r / slots ≡ stepKind → After r
   unfolding taskAfter runAfter slotPiece stepPiece isFactKind isCellKind
@@ -139,7 +139,7 @@ module _ (t : Task) (k x y z : ℕ) (formed : WellFormed t) (told : Told t k x y
       back e =
           let same : k ≡ stepKind = omega arith in
           let slot = told .step-slot same in
-          both-true (eq-eqb k stepKind same) (eq-eqb i (t .run .count) (omega arith))
+          and-both _ _ (eq-eqb k stepKind same) (eq-eqb i (t .run .count) (omega arith))
 
   sizes-after : (r : ℕ) → r / slots ≡ sizesKind → After r
   unfolding taskAfter tableAfter slotPiece

@@ -10,7 +10,7 @@ use lib.Seq.{ext-getD}
 use borrow.Author.Tests.{ltb-true, lt-ltb}
 use Rattle.facts.specs.Sets.{has}
 use Rattle.facts.proofs.Laws.{same-sets}
-use Rattle.table.proofs.Bools.{by-order}
+use Rattle.table.proofs.FlagLaws.{by-order}
 use Rattle.table.specs.Lists.{piece}
 use Rattle.table.specs.Tasks.{WellFormed}
 use Rattle.table.specs.declared.Table.{Table}

@@ -9,8 +9,7 @@ use lib.Dec.{eqb, leb, ltb}
 use borrow.Author.Tests.{eqb-true, eqb-false, eq-eqb, ne-eqb, leb-true, leb-false, ltb-false}
 use Rattle.table.specs.Sizes.{maxSteps}
 use Rattle.table.specs.Tasks.{WellFormed}
-use Rattle.table.proofs.Bools.{both}
-use Rattle.table.proofs.FlagLaws.{or-neither}
+use Rattle.table.proofs.FlagLaws.{or-neither, both}
 use Rattle.table.specs.declared.Table.{Table}
 use Rattle.table.specs.declared.Task.{Task}
 use Rattle.taskfile.specs.Format.{sizesKind, startKind, deleteKind, stepKind, endKind, isKind, isCellKind, isFactKind}

@@ -4,9 +4,10 @@ use Prim.Native.Nat.{ℕ, _≤_, _-_}
 use borrow.Author.Needs.{needs}
 use native.Mathlib.Omega.{arith}
 use Rattle.solve.specs.Tables.{rowAt}
+use Rattle.table.specs.Counting.{everyBelow}
 use Rattle.table.proofs.Formation.{everyBelow-none, everyBelow-more, everyBelow-end}
 use Rattle.table.specs.Sizes.{maxFacts}
-use Rattle.table.specs.Tasks.{cellsOf, everyBelow}
+use Rattle.table.specs.Tasks.{cellsOf}
 use Rattle.session.specs.Sessions.{rowInForm}
 use Rattle.session.proofs.form.are_rows_in_form.Statement.{statement}
 use Rattle.session.proofs.form.are_rows_in_form.Tie as tie

@@ -3,8 +3,9 @@ use mathlib.Core.Path.{_≡_}
 use Prim.Native.Nat.{_≤_, _-_}
 use borrow.Author.Needs.{needs}
 use native.Mathlib.Omega.{arith}
+use Rattle.table.specs.Counting.{everyBelow}
 use Rattle.table.specs.Sizes.{maxActions}
-use Rattle.table.specs.Tasks.{actionFormed, everyBelow}
+use Rattle.table.specs.Tasks.{actionFormed}
 use Rattle.table.proofs.Formation.{everyBelow-none, everyBelow-more, everyBelow-end}
 use Rattle.table.proofs.formed.are_actions_formed.Statement.{statement}
 use Rattle.table.proofs.formed.are_actions_formed.Tie as tie

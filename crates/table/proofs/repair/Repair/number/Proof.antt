@@ -7,7 +7,7 @@ use native.Mathlib.Omega.{arith}
 use lib.Dec.{ltb}
 use Rattle.table.specs.Sizes.{maxFacts, maxActions, kinds}
 use Rattle.table.specs.Repairs.{numbered}
-use Rattle.table.proofs.Bools.{both}
+use Rattle.table.proofs.FlagLaws.{both}
 use Rattle.table.proofs.repair.Repair.number.Statement.{statement}
 use Rattle.table.proofs.repair.Repair.number.Tie as tie
 
