@@ -188,11 +188,6 @@ module _ (f : ℕ) (s : Choice) where
       let d = listOf-collected n h in
       subst (λ k. R k ≡ true) (sym (d .number)) (part (d .code) (d .below) (d .chosen))
 
--- The length does not depend on the fact.
-pub length-any : (f g : ℕ) (s : Choice) → length (listOf f s) ≡ length (listOf g s)
-unfolding listOf codes
-length-any f g s = codes-same-length (inChoice s) (inChoice s) f g perFact (λ c h. refl)
-
 pub in-nothing : (code : ℕ) → inChoice nothing code ≡ false
 unfolding inChoice nothing
 in-nothing code = ap (λ m. has m (codeAction code)) (none (codeKind code)) ∙ has-empty (codeAction code)
@@ -252,6 +247,9 @@ with-has s code h = in-with s code code h h ∙ or-left (eqb code code) (inChoic
 
 pub with-keeps : (s : Choice) (code c : ℕ) → code < perFact → c < perFact → inChoice s c ≡ true → inChoice (withRepair s code) c ≡ true
 with-keeps s code c hcode hc t = in-with s code c hcode hc ∙ or-right (eqb c code) (inChoice s c) t
+
+pub with-other : (s : Choice) (code c : ℕ) → code < perFact → c < perFact → (c ≡ code → ⊥) → inChoice (withRepair s code) c ≡ inChoice s c
+with-other s code c hcode hc ne = in-with s code c hcode hc ∙ ap (λ b. b || inChoice s c) (ne-eqb c code ne)
 
 pub with-cases : (s : Choice) (code c : ℕ) → code < perFact → c < perFact → inChoice (withRepair s code) c ≡ true
     → (c ≡ code) ⊎ (inChoice s c ≡ true)
@@ -363,21 +361,8 @@ first-difference-first la lb (x ∷ a) (y ∷ b) n u v e here gone there back =
         let before : y < n = omega (arith, x-le) in
         absurd (omega (arith, OrderLaws.ascending-later x (x ∷ a) y (omega arith, u .1) (back y before (OrderLaws.isIn-head y b))))
 
--- The set that has the first code in which they differ comes first, at equal length.
-ahead : (f : ℕ) (a b : Choice) (code : ℕ) → code < perFact → ((c : ℕ) → c < code → inChoice a c ≡ inChoice b c)
-    → inChoice a code ≡ true → inChoice b code ≡ false → length (listOf f a) ≡ length (listOf f b) → listOf f a ≼ listOf f b
-ahead f a b code h same here gone e =
-    inr (first-difference-first 0 0 (listOf f a) (listOf f b) (codeNumber f code) (listOf-ascending f a) (listOf-ascending f b) e
-    (listOf-has f a code h here) absent (agree-below f a b code same) (agree-below f b a code (λ c k. sym (same c k))))
-  where
-    absent : isIn (listOf f b) (codeNumber f code) ≡ true → ⊥
-    absent t =
-        let d = listOf-collected f b (codeNumber f code) t in
-        let q : d .code ≡ code = omega (arith, d .number) in
-        false≢true (sym gone ∙ ap (inChoice b) (sym q) ∙ d .chosen)
-
 -- Sets with the same codes have the same list.
-pub same-list : (f : ℕ) (a b : Choice) → ((c : ℕ) → c < perFact → inChoice a c ≡ inChoice b c) → listOf f a ≡ listOf f b
+same-list : (f : ℕ) (a b : Choice) → ((c : ℕ) → c < perFact → inChoice a c ≡ inChoice b c) → listOf f a ≡ listOf f b
 same-list f a b same =
     OrderLaws.same-members 0 0 (listOf f a) (listOf f b) (listOf-ascending f a) (listOf-ascending f b) (all a b same)
     (all b a (λ c h. sym (same c h)))
@@ -385,13 +370,77 @@ same-list f a b same =
     all : (a b : Choice) → ((c : ℕ) → c < perFact → inChoice a c ≡ inChoice b c) → (n : ℕ) → isIn (listOf f a) n ≡ true → isIn (listOf f b) n ≡ true
     all a b same n t = let d = listOf-collected f a n t in agree-below f a b perFact same n (omega (arith, d .below, d .number)) t
 
-pub earlier-same : (a b : Choice) (t : Bool) → ((f : ℕ) → listOf f a ≡ listOf f b) → Earlier a b t
-earlier-same a b true same = λ f. subst (λ l. listOf f a ≼ l) (same f) (OrderLaws.≼-refl (listOf f a))
-earlier-same a b false same = λ f. subst (λ l. l ≼ listOf f a) (same f) (OrderLaws.≼-refl (listOf f a))
+-- a comes before b or has the same repairs: it is a that has the first repair in which they differ.
+pub record Ahead (a b : Choice) : Type 0 where
+  pub at : ℕ
+  pub within : at ≤ perFact
+  pub same : (c : ℕ) → c < at → inChoice a c ≡ inChoice b c
+  pub here : at < perFact → (inChoice a at ≡ true) × (inChoice b at ≡ false)
+
+pub ahead-same : (a : Choice) → Ahead a a
+ahead-same a = record { at = perFact; within = omega arith; same = λ c h. refl; here = λ h. absurd (omega arith) }
+
+-- One repair more in each, the first set's not after the other's.
+module _ (a b : Choice) (x y : ℕ) (hx : x < perFact) (hy : y < perFact) (ordered : x ≤ y) (out : inChoice a x ≡ false) (h : Ahead a b) where
+  -- It comes before all in which they differed.
+  new-first : x < y → x < h .at → Ahead (withRepair a x) (withRepair b y)
+  new-first apart low = record {
+    at = x;
+    within = omega arith;
+    same = λ c k.
+        with-other a x c hx (omega arith) (λ e. absurd (omega arith)) ∙ h .same c (omega arith) ∙
+        sym (with-other b y c hy (omega arith) (λ e. absurd (omega arith)));
+    here = λ k. (with-has a x hx, with-other b y x hy hx (λ e. absurd (omega arith)) ∙ sym (h .same x low) ∙ out);
+  }
+
+  -- They differ where they did.
+  old-first : (x ≡ y) ⊎ (h .at ≤ x) → Ahead (withRepair a x) (withRepair b y)
+  old-first why = record {
+    at = h .at;
+    within = h .within;
+    same = λ c k.
+        in-with a x c hx (omega (arith, h .within)) ∙ ap₂ (λ u v. u || v) (test c k why) (h .same c k) ∙
+        sym (in-with b y c hy (omega (arith, h .within)));
+    here = λ k. (with-keeps a x (h .at) hx k (h .here k .0), with-other b y (h .at) hy k (apart k why) ∙ h .here k .1);
+  }
+    where
+      test : (c : ℕ) → c < h .at → (x ≡ y) ⊎ (h .at ≤ x) → eqb c x ≡ eqb c y
+      test c k (inl e) = ap (eqb c) e
+      test c k (inr past) = ne-eqb c x (λ e. absurd (omega arith)) ∙ sym (ne-eqb c y (λ e. absurd (omega arith)))
+
+      apart : h .at < perFact → (x ≡ y) ⊎ (h .at ≤ x) → h .at ≡ y → ⊥
+      apart k (inl e) q = false≢true (sym out ∙ ap (inChoice a) (e ∙ sym q) ∙ h .here k .0)
+      apart k (inr past) q = let e : x ≡ h .at = omega arith in false≢true (sym out ∙ ap (inChoice a) e ∙ h .here k .0)
+
+  pub ahead-with : Ahead (withRepair a x) (withRepair b y)
+  ahead-with = pick (decLt x y) (decLt x (h .at))
+    where
+      pick : Dec (x < y) → Dec (x < h .at) → Ahead (withRepair a x) (withRepair b y)
+      pick (yes apart) (yes low) = new-first apart low
+      pick (no apart) d = old-first (inl (omega arith))
+      pick (yes apart) (no past) = old-first (inr (omega arith))
+
+-- At equal length the set that is ahead comes first.
+pub ahead-first : (f : ℕ) (a b : Choice) → Ahead a b → length (listOf f a) ≡ length (listOf f b) → listOf f a ≼ listOf f b
+ahead-first f a b h e = pick (decLt (h .at) perFact)
+  where
+    absent : inChoice b (h .at) ≡ false → isIn (listOf f b) (codeNumber f (h .at)) ≡ true → ⊥
+    absent gone t =
+        let d = listOf-collected f b (codeNumber f (h .at)) t in
+        let q : d .code ≡ h .at = omega (arith, d .number) in
+        false≢true (sym gone ∙ ap (inChoice b) (sym q) ∙ d .chosen)
+
+    pick : Dec (h .at < perFact) → listOf f a ≼ listOf f b
+    pick (yes k) =
+        inr (first-difference-first 0 0 (listOf f a) (listOf f b) (codeNumber f (h .at)) (listOf-ascending f a) (listOf-ascending f b) e
+        (listOf-has f a (h .at) k (h .here k .0)) (absent (h .here k .1)) (agree-below f a b (h .at) (h .same))
+        (agree-below f b a (h .at) (λ c k. sym (h .same c k))))
+    pick (no k) =
+        subst (λ l. listOf f a ≼ l) (same-list f a b (λ c low. h .same c (omega arith))) (OrderLaws.≼-refl (listOf f a))
 
 pub earlier-difference : (a b : Choice) (code : ℕ) → FirstDifference a b code
     → ((f : ℕ) → length (listOf f a) ≡ length (listOf f b)) → Earlier a b (inChoice a code)
-earlier-difference a b code d e = pick (decLt code perFact) (inChoice a code) refl
+earlier-difference a b code d e = pick (inChoice a code) refl
   where
     other : (t : Bool) → code < perFact → inChoice a code ≡ t → inChoice b code ≡ not t
     other true h t = is-false (inChoice b code) (λ u. d .differs h (t ∙ sym u))
@@ -401,10 +450,11 @@ earlier-difference a b code d e = pick (decLt code perFact) (inChoice a code) re
         is-true true k = refl
         is-true false k = absurd (k refl)
 
-    pick : Dec (code < perFact) → (t : Bool) → inChoice a code ≡ t → Earlier a b t
-    pick (yes h) true t = λ f. ahead f a b code h (d .same) t (other true h t) (e f)
-    pick (yes h) false t = λ f. ahead f b a code h (λ c k. sym (d .same c k)) (other false h t) t (sym (e f))
-    pick (no h) t u = earlier-same a b t (λ f. same-list f a b (λ c k. d .same c (omega arith)))
+    pick : (t : Bool) → inChoice a code ≡ t → Earlier a b t
+    pick true t = λ f.
+        ahead-first f a b (record { at = code; within = d .within; same = d .same; here = λ h. (t, other true h t) }) (e f)
+    pick false t = λ f.
+        ahead-first f b a (record { at = code; within = d .within; same = λ c k. sym (d .same c k); here = λ h. (other false h t, t) }) (sym (e f))
 
 pub earlier-shorter : (a b : Choice) (m n : ℕ) → ((f : ℕ) → m ≡ length (listOf f a)) → ((f : ℕ) → n ≡ length (listOf f b))
     → (m ≡ n → ⊥) → Earlier a b (ltb m n)

@@ -10,7 +10,7 @@ use Rattle.facts.specs.Sets.{has, joined, removed}
 use Rattle.facts.proofs.Laws.{has-joined, has-removed}
 use Rattle.table.specs.Sizes.{maxActions, kinds, perKind}
 use Rattle.table.specs.Strips.{stateAt}
-use Rattle.table.specs.Repairs.{byKind, dropDelete, addEffect, dropNeed, chosen}
+use Rattle.table.specs.Repairs.{dropDelete, addEffect, dropNeed, chosen}
 use Rattle.table.proofs.FlagLaws.{and-left, and-right, and-both}
 use Rattle.table.proofs.RepairNumbers.{fact-back, kind-back, action-back}
 use Rattle.table.proofs.RunLaws.{stateAt-first, stateAt-next}

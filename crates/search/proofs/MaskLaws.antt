@@ -1,9 +1,8 @@
 -- Laws of a choice as three masks of actions: its size as counts, its next code and the first difference of two as
 -- lowest places.
-use mathlib.Core.Bool.{Bool, true, false, cond, not, _&&_, _||_, false≢true, and-true, and-false}
-use mathlib.Core.Logic.{_⊎_, inl, inr}
+use mathlib.Core.Bool.{Bool, true, false, not, _&&_, _||_, false≢true, and-true, and-false}
 use mathlib.Core.Path.{_≡_, refl, sym, ap, ap₂, _∙_}
-use Prim.Native.Nat.{ℕ, zero, suc, _+_, _*_, _-_, _/_, _%_, _^_, _<_, _≤_, min}
+use Prim.Native.Nat.{ℕ, zero, suc, _+_, _*_, _-_, _^_, _<_, _≤_, min}
 use native.Mathlib.Decide.{decLt}
 use native.Mathlib.Omega.{arith}
 use borrow.Author.Tests.{lt-ltb, le-ltb, ltb-false, not-true}
@@ -16,7 +15,7 @@ use Rattle.facts.proofs.Laws.{has-joined, has-shared, has-removed, has-below, j
 use Rattle.table.specs.Lists.{gather}
 use Rattle.table.specs.Repairs.{dropDelete, addEffect, dropNeed}
 use Rattle.table.proofs.FlagLaws.{and-left, and-right}
-use Rattle.table.specs.Sizes.{perFact, perKind, kinds}
+use Rattle.table.specs.Sizes.{perKind, kinds}
 use Rattle.search.specs.declared.Choice.{Choice}
 use Rattle.search.specs.Choices.{codeKind, codeAction, inChoice, listOf}
 use Rattle.search.specs.Trying.{maskIn, NextAction, NextIn, FirstUnshared, FirstDifference}
@@ -31,10 +30,6 @@ in-kind s k c low high =
     ap (λ j. has (maskIn j s) (codeAction c)) kind ∙ ap (λ a. has (maskIn k s) a) action
 
 -- ---- the size
-
-sumBits-next : (n m : ℕ) → sumBits (suc n) m ≡ sumBits n m + bit m n
-unfolding sumBits
-sumBits-next n m = refl
 
 pub sumBits-le : (n m : ℕ) → sumBits n m ≤ n
 unfolding sumBits

@@ -2,12 +2,12 @@
 use mathlib.Core.Bool.{Bool, true, false, cond, false≢true}
 use mathlib.Core.List.{List, [], _∷_, _++_, append-nil}
 use mathlib.Core.Path.{_≡_, refl, sym, ap, _∙_, subst}
-use Prim.Native.Nat.{ℕ, zero, suc, _+_, _-_, _<_, _≤_}
+use Prim.Native.Nat.{ℕ, suc, _+_, _-_, _<_, _≤_}
 use native.Mathlib.Numerals.{add-one}
 use native.Mathlib.Omega.{arith}
-use lib.ListN.{length, getD, set, replicate, length-append}
+use lib.ListN.{length, getD, replicate, length-append}
 use lib.Seq.{set-append-seam, append-snoc}
-use Rattle.table.specs.Answer.{Verdict, found, over, hopeless, Within, First}
+use Rattle.table.specs.Answer.{found, over, hopeless}
 use Rattle.table.specs.Lists.{gather, piece}
 use Rattle.table.specs.Sizes.{maxRow, perFact, unused}
 use Rattle.table.specs.Tasks.{WellFormed, KeepsFor}

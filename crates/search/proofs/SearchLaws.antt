@@ -12,15 +12,16 @@ use Rattle.table.specs.Order.{isIn, _≼_}
 use Rattle.table.specs.Repairs.{permitted, repaired}
 use Rattle.table.specs.Sizes.{maxRow, perFact}
 use Rattle.table.specs.Strips.{Right, stateAt}
-use Rattle.table.proofs.OrderLaws.{≼-trans, ≼-length, subset-first}
+use Rattle.table.proofs.AnswerLaws.{first-same}
+use Rattle.table.proofs.OrderLaws.{compared, ≼-refl, ≼-trans, ≼-length, subset-first}
 use Rattle.search.specs.declared.Column.{Column}
 use Rattle.search.specs.declared.Choice.{Choice}
 use Rattle.search.specs.declared.Found.{Found}
 use Rattle.search.specs.Choices.{nothing, inChoice, listOf, codeNumber, Contains}
 use Rattle.search.specs.Columns.{cellsIn, courseIn, KeepsIn}
-use Rattle.search.specs.Searching.{cellsWith, NeededAt, Missing, Allowed, Conflicts, Among, Chosen, Shortest}
+use Rattle.search.specs.Searching.{cellsWith, NeededAt, Missing, Allowed, Conflicts, Among, AllAfter, Later, OrBefore, FirstFound, Chosen, Shortest}
 use Rattle.search.specs.Gaps.{Gap}
-use Rattle.search.specs.Trying.{withRepair, NextIn, Better}
+use Rattle.search.specs.Trying.{withRepair, NextIn, FoundEarlier}
 use Rattle.search.proofs.ChoiceLaws.{listOf-ascending, listOf-collected, listOf-has, listOf-members, contains-list, with-cases, with-length, contains-with, contains-without, contains-repair, nothing-list, nothing-contained}
 
 -- ---- a candidate and its list
@@ -74,14 +75,6 @@ module _ (col : Column) (s : Choice) where
 -- ---- a try
 
 module _ (col : Column) (s : Choice) where
-  -- No gap: the candidate itself is the first of the lists that contain it.
-  pub candidate-first : (left : ℕ) → Allowed col s → Right (cellsWith col s) (courseIn col) (col .fact)
-      → First (Among col s (length (listOf (col .fact) s) + left)) (listOf (col .fact) s)
-  candidate-first left allowed right = record {
-    member = record { keeps = right-keeps col s allowed right; contains = listOf-has (col .fact) s; short = omega arith };
-    least = λ m a. contained-first col s m (a .keeps) (a .contains);
-  }
-
   -- A list that keeps the fact right, contains the candidate and is no longer has no repair beside the candidate's.
   pub no-more : (l : List ℕ) → KeepsIn col l → Contains (isIn l) (col .fact) s → length l ≤ length (listOf (col .fact) s)
       → (n : ℕ) → isIn l n ≡ true → isIn (listOf (col .fact) s) n ≡ true
@@ -115,180 +108,125 @@ pub gap-missing : (col : Column) (s : Choice) (j : ℕ) → Gap col s j → j �
 gap-missing col s j (Gap.missing-at low m none) h = m
 gap-missing col s j (Gap.nowhere e right) h = absurd (omega arith)
 
--- ---- the best of a set of lists
-
--- `Chosen` over any set G of lists: the first of the shortest of G, or nothing exactly if G is empty.
-abbrev pub Best : ℕ → (List ℕ → Type 0) → Bool → Choice → Type 0
-Best f G true best = First G (listOf f best)
-Best f G false best = (l : List ℕ) → G l → ⊥
-
-module _ (col : Column) (s : Choice) (k : ℕ) where
-  pub best-chosen : (any : Bool) (best : Choice) → Best (col .fact) (Among col s k) any best → Chosen col s k any best
-  best-chosen true best h = h
-  best-chosen false best h = h
-
-  pub chosen-best : (any : Bool) (best : Choice) → Chosen col s k any best → Best (col .fact) (Among col s k) any best
-  chosen-best true best h = h
-  chosen-best false best h = h
+-- ---- the first found of a set of lists
 
 module _ (f : ℕ) (G : List ℕ → Type 0) where
-  pub best-least : (any : Bool) (best : Choice) → Best f G any best → (m : List ℕ) → G m → listOf f best ≼ m
-  best-least true best h m g = h .least m g
-  best-least false best h m g = absurd (h m g)
-
   -- The same set of lists, said in two ways.
-  pub best-same : (H : List ℕ → Type 0) → ((l : List ℕ) → G l → H l) → ((l : List ℕ) → H l → G l)
-      → (any : Bool) (best : Choice) → Best f G any best → Best f H any best
-  best-same H there back true best h = record { member = there (listOf f best) (h .member); least = λ m t. h .least m (back m t) }
-  best-same H there back false best h = λ l t. h l (back l t)
+  pub found-same : (H : List ℕ → Type 0) → ((l : List ℕ) → G l → H l) → ((l : List ℕ) → H l → G l)
+      → (any : Bool) (r : Choice) → FirstFound f G any r → FirstFound f H any r
+  found-same H there back true r h = first-same G H there back (listOf f r) h
+  found-same H there back false r h = λ l t. h l (back l t)
 
--- Two sets of lists, G and H, that make up K; the best a of G, and the best b of H.
-module _ (f : ℕ) (G H K : List ℕ → Type 0) (part : (l : List ℕ) → G l → K l) (either : (l : List ℕ) → K l → G l ⊎ H l)
-    (a b : Found) (best-a : Best f G (a .any) (a .choice)) (best-b : Best f H (b .any) (b .choice)) where
-  -- Nothing in H: the best of G is that of K.
-  alone : b .any ≡ false → Best f K (a .any) (a .choice)
-  alone e = best-same f G K part (λ l t. pick l (either l t)) (a .any) (a .choice) best-a
+  -- More lists, beside the one found before.
+  pub before-more : (H : List ℕ → Type 0) (best : Found) → ((l : List ℕ) → G l → H l) → (l : List ℕ) → OrBefore f best G l → OrBefore f best H l
+  before-more H best more l (OrBefore.before e q) = OrBefore.before e q
+  before-more H best more l (OrBefore.here g) = OrBefore.here (more l g)
+
+  -- No list of G comes before the one found before: that stays.
+  pub found-stays : (best : Found) → AllAfter f best G → FirstFound f (OrBefore f best G) (best .any) (best .choice)
+  found-stays best later = pick (best .any) refl
     where
-      empty : (l : List ℕ) → H l → ⊥
-      empty = subst (λ t. Best f H t (b .choice)) e best-b
+      least : (m : List ℕ) → OrBefore f best G m → listOf f (best .choice) ≼ m
+      least m (OrBefore.before e q) = subst (λ k. listOf f (best .choice) ≼ k) (sym q) (≼-refl (listOf f (best .choice)))
+      least m (OrBefore.here g) = later m g .1
 
-      pick : (l : List ℕ) → G l ⊎ H l → G l
-      pick l (inl g) = g
-      pick l (inr h) = absurd (empty l h)
+      some : (m : List ℕ) → OrBefore f best G m → best .any ≡ true
+      some m (OrBefore.before e q) = e
+      some m (OrBefore.here g) = later m g .0
 
-  -- The best of G comes before that of H: it is the best of K.
-  earliest : a .any ≡ true → listOf f (a .choice) ≼ listOf f (b .choice) → Best f K (a .any) (a .choice)
-  earliest e earlier = subst (λ t. Best f K t (a .choice)) (sym e) first
-    where
-      pick : (m : List ℕ) → G m ⊎ H m → listOf f (a .choice) ≼ m
-      pick m (inl g) = best-least f G (a .any) (a .choice) best-a m g
-      pick m (inr h) =
-          ≼-trans (listOf f (a .choice)) (listOf f (b .choice)) m earlier (best-least f H (b .any) (b .choice) best-b m h)
+      pick : (t : Bool) → best .any ≡ t → FirstFound f (OrBefore f best G) t (best .choice)
+      pick true e = record { member = OrBefore.before e refl; least = least }
+      pick false e = λ l t. false≢true (sym e ∙ some l t)
 
-      first : First K (listOf f (a .choice))
-      first = record {
-        member = part (listOf f (a .choice)) (subst (λ t. Best f G t (a .choice)) e best-a .member);
-        least = λ m t. pick m (either m t);
-      }
-
--- The better of the bests of two sets is the best of both together.
+-- Two sets of lists, G and H, that make up K: the first found b of G, and then the first found r of b and H.
 module _ (f : ℕ) (G H K : List ℕ → Type 0) (left : (l : List ℕ) → G l → K l) (right : (l : List ℕ) → H l → K l)
-    (either : (l : List ℕ) → K l → G l ⊎ H l) (a b r : Found) (best-a : Best f G (a .any) (a .choice))
-    (best-b : Best f H (b .any) (b .choice)) where
-  swapped : (l : List ℕ) → G l ⊎ H l → H l ⊎ G l
-  swapped l (inl g) = inr g
-  swapped l (inr h) = inl h
-
-  taken : (x : Found) → r ≡ x → Best f K (x .any) (x .choice) → Best f K (r .any) (r .choice)
-  taken x q best = subst (λ x. Best f K (x .any) (x .choice)) (sym q) best
-
-  pub better-best : Better a b r → Best f K (r .any) (r .choice)
-  better-best (Better.second-alone e q) = taken b q (alone f H G K right (λ l t. swapped l (either l t)) b a best-b best-a e)
-  better-best (Better.first-alone e q) = taken a q (alone f G H K left either a b best-a best-b e)
-  better-best (Better.first-earlier e earlier q) = taken a q (earliest f G H K left either a b best-a best-b e (earlier f))
-  better-best (Better.second-earlier e earlier q) =
-      taken b q (earliest f H G K right (λ l t. swapped l (either l t)) b a best-b best-a e (earlier f))
-
--- ---- a branch
-
--- The lists of a candidate that have one of the repairs tried so far, whichever set of codes T those are.
-pub record AmongTried (col : Column) (s : Choice) (k : ℕ) (T : ℕ → Type 0) (l : List ℕ) : Type 0 where
-  pub among : Among col s k l
-  pub code : ℕ
-  pub below : code < perFact
-  pub tried : T code
-  pub present : isIn l (codeNumber (col .fact) code) ≡ true
-
-module _ (col : Column) (s : Choice) (k : ℕ) where
-  -- Nothing tried, nothing found.
-  pub tried-none : (T : ℕ → Type 0) → ((c : ℕ) → T c → ⊥) → (l : List ℕ) → AmongTried col s k T l → ⊥
-  tried-none T none l a = none (a .code) (a .tried)
-
-  -- What has the candidate with one repair more has the candidate and that repair, and the other way round.
-  with-tried : (T : ℕ → Type 0) (code : ℕ) → code < perFact → T code → (l : List ℕ) → Among col (withRepair s code) k l
-      → AmongTried col s k T l
-  with-tried T code h t l a = record {
-    among = record {
-      keeps = a .keeps;
-      contains = contains-without (isIn l) (col .fact) s code h (a .contains);
-      short = a .short;
-    };
-    code = code;
-    below = h;
-    tried = t;
-    present = contains-repair (isIn l) (col .fact) s code h (a .contains);
-  }
-
-  tried-with : (T : ℕ → Type 0) (code : ℕ) → code < perFact → (l : List ℕ) → (a : AmongTried col s k T l) → a .code ≡ code
-      → Among col (withRepair s code) k l
-  tried-with T code h l a e = record {
-    keeps = a .among .keeps;
-    contains = contains-with (isIn l) (col .fact) s code h (a .among .contains)
-        (subst (λ c. isIn l (codeNumber (col .fact) c) ≡ true) e (a .present));
-    short = a .among .short;
-  }
-
-  -- One more try: T is what was tried before and U what is tried now. The try may skip lists (it looks among H only),
-  -- as long as what it skips was among the lists of an earlier try.
-  pub tried-more : (T U : ℕ → Type 0) (code : ℕ) → code < perFact → ((c : ℕ) → T c → U c) → U code
-      → ((c : ℕ) → U c → T c ⊎ (c ≡ code))
-      → (H : List ℕ → Type 0) → ((l : List ℕ) → H l → Among col (withRepair s code) k l)
-      → ((l : List ℕ) → Among col (withRepair s code) k l → AmongTried col s k T l ⊎ H l)
-      → (best found r : Found) → Best (col .fact) (AmongTried col s k T) (best .any) (best .choice)
-      → Best (col .fact) H (found .any) (found .choice) → Better best found r
-      → Best (col .fact) (AmongTried col s k U) (r .any) (r .choice)
-  tried-more T U code h grows here only H within skipped best found r best-T best-H better =
-      better-best (col .fact) (AmongTried col s k T) H (AmongTried col s k U) wider (λ l t. with-tried U code h here l (within l t))
-      (λ l a. pick l a (only (a .code) (a .tried))) best found r best-T best-H better
+    (either : (l : List ℕ) → K l → G l ⊎ H l) (b r : Found) (first-G : FirstFound f G (b .any) (b .choice)) where
+  leads : AllAfter f b G
+  leads m g = pick (b .any) refl first-G
     where
-      wider : (l : List ℕ) → AmongTried col s k T l → AmongTried col s k U l
-      wider l a = record {
-        among = a .among;
-        code = a .code;
-        below = a .below;
-        tried = grows (a .code) (a .tried);
-        present = a .present;
+      pick : (t : Bool) → b .any ≡ t → FirstFound f G t (b .choice) → (b .any ≡ true) × (listOf f (b .choice) ≼ m)
+      pick true e h = (e, h .least m g)
+      pick false e h = absurd (h m g)
+
+  -- A list of K has one of b and H that is not after it.
+  known : (m : List ℕ) → G m ⊎ H m → (l : List ℕ) × OrBefore f b H l × (l ≼ m)
+  known m (inl g) = (listOf f (b .choice), OrBefore.before (leads m g .0) refl, leads m g .1)
+  known m (inr h) = (m, OrBefore.here h, ≼-refl m)
+
+  part : (l : List ℕ) → OrBefore f b H l → K l
+  part l (OrBefore.before e q) = subst K (sym q) (left (listOf f (b .choice)) (subst (λ t. FirstFound f G t (b .choice)) e first-G .member))
+  part l (OrBefore.here h) = right l h
+
+  -- It is the first found of K.
+  pub found-more : FirstFound f (OrBefore f b H) (r .any) (r .choice) → FirstFound f K (r .any) (r .choice)
+  found-more first = pick (r .any) first
+    where
+      pick : (t : Bool) → FirstFound f (OrBefore f b H) t (r .choice) → FirstFound f K t (r .choice)
+      pick true h = record {
+        member = part (listOf f (r .choice)) (h .member);
+        least = λ m k. let o = known m (either m k) in ≼-trans (listOf f (r .choice)) (o .0) m (h .least (o .0) (o .1)) (o .2);
       }
+      pick false h = λ m k. let o = known m (either m k) in h (o .0) (o .1)
 
-      pick : (l : List ℕ) (a : AmongTried col s k U l) → T (a .code) ⊎ (a .code ≡ code) → AmongTried col s k T l ⊎ H l
-      pick l a (inl t) = inl (record { among = a .among; code = a .code; below = a .below; tried = t; present = a .present })
-      pick l a (inr e) = skipped l (tried-with U code h l a e)
+-- ---- a test's own answers
 
-  -- Every repair of a conflict tried: nothing is left out.
-  pub tried-all : (q : Choice) (T : ℕ → Type 0) → Conflicts col s q → ((c : ℕ) → c < perFact → inChoice q c ≡ true → T c)
-      → (any : Bool) (best : Choice) → Best (col .fact) (AmongTried col s k T) any best → Chosen col s k any best
-  tried-all q T conflict all any best h =
-      best-chosen col s k any best (best-same (col .fact) (AmongTried col s k T) (Among col s k) (λ l a. a .among) back any best h)
+module _ (col : Column) (s : Choice) (left : ℕ) (best : Found) where
+  -- No list of the candidate comes before the one found before.
+  pub later-stays : Later col s left best → Chosen col s (length (listOf (col .fact) s) + left) best best
+  later-stays later = found-stays (col .fact) (Among col s (length (listOf (col .fact) s) + left)) best later
+
+  -- No gap: the candidate itself is the first of the lists that contain it, and it comes before the one found before.
+  pub candidate-taken : Allowed col s → Right (cellsWith col s) (courseIn col) (col .fact) → FoundEarlier best s false
+      → First (OrBefore (col .fact) best (Among col s (length (listOf (col .fact) s) + left))) (listOf (col .fact) s)
+  candidate-taken allowed right later = record {
+    member = OrBefore.here (record {
+      keeps = right-keeps col s allowed right;
+      contains = listOf-has (col .fact) s;
+      short = omega arith;
+    });
+    least = least;
+  }
     where
-      back : (l : List ℕ) → Among col s k l → AmongTried col s k T l
-      back l a =
-          let m = conflict .meets (isIn l) (a .keeps .right) in
-          record { among = a; code = m .0; below = m .1; tried = all (m .0) (m .1) (m .2); present = m .3 }
+      least : (m : List ℕ) → OrBefore (col .fact) best (Among col s (length (listOf (col .fact) s) + left)) m → listOf (col .fact) s ≼ m
+      least m (OrBefore.before e q) = subst (λ k. listOf (col .fact) s ≼ k) (sym q) (later e (col .fact))
+      least m (OrBefore.here a) = contained-first col s m (a .keeps) (a .contains)
 
 -- ---- a branch's loop over the codes of a conflict
 
--- The repairs of the conflict q with a code below i.
-abbrev pub Before : Choice → ℕ → ℕ → Type 0
-Before q i c = (c < i) × (inChoice q c ≡ true)
+-- The lists of a candidate that have one of the repairs tried so far: those of the conflict q with a code below i.
+pub record Tried (col : Column) (s q : Choice) (k i : ℕ) (l : List ℕ) : Type 0 where
+  pub among : Among col s k l
+  pub code : ℕ
+  pub below : code < i
+  pub repair : inChoice q code ≡ true
+  pub present : isIn l (codeNumber (col .fact) code) ≡ true
 
--- What the loop knows when it comes to code i: the best of the lists that have one of those.
-abbrev pub Tried : Column → Choice → Choice → ℕ → ℕ → Found → Type 0
-Tried col s q k i best = Best (col .fact) (AmongTried col s k (Before q i)) (best .any) (best .choice)
+-- The same list, with the loop at another place.
+module _ (col : Column) (s q : Choice) (k : ℕ) where
+  tried-at : (i j : ℕ) (l : List ℕ) → (t : Tried col s q k i l) → t .code < j → Tried col s q k j l
+  tried-at i j l t h = record { among = t .among; code = t .code; below = h; repair = t .repair; present = t .present }
 
-module _ (col : Column) (s q : Choice) where
-  pub loop-first : (k i : ℕ) → NextIn q 0 i → (l : List ℕ) → AmongTried col s k (Before q i) l → ⊥
+-- What the loop knows when it comes to code i: the first found of those and the list found before.
+abbrev pub TriedBest : Column → Choice → Choice → ℕ → ℕ → Found → Found → Type 0
+TriedBest col s q k i before best =
+    FirstFound (col .fact) (OrBefore (col .fact) before (Tried col s q k i)) (best .any) (best .choice)
+
+module _ (col : Column) (s q : Choice) (before : Found) where
+  pub loop-first : (k i : ℕ) → NextIn q 0 i → TriedBest col s q k i before before
   loop-first k i next =
-      tried-none col s k (Before q i) (λ c b. false≢true (sym (next .absent c (b .0) (omega arith)) ∙ b .1))
+      found-stays (col .fact) (Tried col s q k i) before
+      (λ l t. absurd (false≢true (sym (next .absent (t .code) (t .below) (omega arith)) ∙ t .repair)))
 
-  pub loop-next : (left i next : ℕ) (best found r : Found) → Conflicts col s q → 0 < left → i < perFact → NextIn q (i + 1) next
-      → inChoice q i ≡ true → Tried col s q (length (listOf (col .fact) s) + left) i best
-      → Chosen col (withRepair s i) (length (listOf (col .fact) (withRepair s i)) + (left - 1)) (found .any) (found .choice)
-      → Better best found r → Tried col s q (length (listOf (col .fact) s) + left) next r
-  loop-next left i next best found r conflict some h after here before chosen better =
-      tried-more col s k (Before q i) (Before q next) i h (λ c b. (omega (arith, after .after, b .0), b .1))
-      (omega (arith, after .after), here) only (Among col (withRepair s i) k) (λ l a. a) (λ l a. inr a) best found r before
-      (chosen-best col (withRepair s i) k (found .any) (found .choice)
-      (subst (λ n. Chosen col (withRepair s i) n (found .any) (found .choice)) same chosen)) better
+  pub loop-next : (left i next : ℕ) (best r : Found) → Conflicts col s q → 0 < left → i < perFact → NextIn q (i + 1) next
+      → inChoice q i ≡ true → TriedBest col s q (length (listOf (col .fact) s) + left) i before best
+      → Chosen col (withRepair s i) (length (listOf (col .fact) (withRepair s i)) + (left - 1)) best r
+      → TriedBest col s q (length (listOf (col .fact) s) + left) next before r
+  loop-next left i next best r conflict some h after here first chosen =
+      found-more (col .fact) (OrBefore (col .fact) before (Tried col s q k i)) (Among col (withRepair s i) k)
+      (OrBefore (col .fact) before (Tried col s q k next))
+      (before-more (col .fact) (Tried col s q k i) (Tried col s q k next) before (λ l t. tried-at col s q k i next l t (omega (arith, t .below, after .after))))
+      (λ l a. OrBefore.here (new l a)) either best r first
+      (subst (λ n. Chosen col (withRepair s i) n best r) same chosen)
     where
       k : ℕ
       k = length (listOf (col .fact) s) + left
@@ -296,18 +234,48 @@ module _ (col : Column) (s q : Choice) where
       same : length (listOf (col .fact) (withRepair s i)) + (left - 1) ≡ length (listOf (col .fact) s) + left
       same = omega (arith, with-length (col .fact) s i h (conflict .fresh i h here))
 
-      only : (c : ℕ) → Before q next c → Before q i c ⊎ (c ≡ i)
-      only c b = pick (decLt c i) (decLt i c)
-        where
-          pick : Dec (c < i) → Dec (i < c) → Before q i c ⊎ (c ≡ i)
-          pick (yes l) d = inl (l, b .1)
-          pick (no l) (yes m) = absurd (false≢true (sym (after .absent c (b .0) (omega arith)) ∙ b .1))
-          pick (no l) (no m) = inr (omega arith)
+      -- What has the candidate with one repair more has the candidate and that repair, and the other way round.
+      new : (l : List ℕ) → Among col (withRepair s i) k l → Tried col s q k next l
+      new l a = record {
+        among = record {
+          keeps = a .keeps;
+          contains = contains-without (isIn l) (col .fact) s i h (a .contains);
+          short = a .short;
+        };
+        code = i;
+        below = omega (arith, after .after);
+        repair = here;
+        present = contains-repair (isIn l) (col .fact) s i h (a .contains);
+      }
 
-  pub loop-end : (k i : ℕ) (best : Found) → Conflicts col s q → perFact ≤ i → Tried col s q k i best
-      → Chosen col s k (best .any) (best .choice)
-  loop-end k i best conflict h tried =
-      tried-all col s k q (Before q i) conflict (λ c hc t. (omega arith, t)) (best .any) (best .choice) tried
+      pick : (l : List ℕ) (t : Tried col s q k next l) → (t .code < i) ⊎ ((t .code ≡ i) ⊎ (i < t .code))
+          → OrBefore (col .fact) before (Tried col s q k i) l ⊎ Among col (withRepair s i) k l
+      pick l t (inl low) = inl (OrBefore.here (tried-at col s q k next i l t low))
+      pick l t (inr (inl e)) = inr (record {
+        keeps = t .among .keeps;
+        contains = contains-with (isIn l) (col .fact) s i h (t .among .contains)
+            (subst (λ c. isIn l (codeNumber (col .fact) c) ≡ true) e (t .present));
+        short = t .among .short;
+      })
+      pick l t (inr (inr high)) = absurd (false≢true (sym (after .absent (t .code) (t .below) (omega arith)) ∙ t .repair))
+
+      either : (l : List ℕ) → OrBefore (col .fact) before (Tried col s q k next) l
+          → OrBefore (col .fact) before (Tried col s q k i) l ⊎ Among col (withRepair s i) k l
+      either l (OrBefore.before e u) = inl (OrBefore.before e u)
+      either l (OrBefore.here t) = pick l t (compared (t .code) i)
+
+  -- Every repair of the conflict tried: nothing is left out.
+  pub loop-end : (k i : ℕ) (best : Found) → Conflicts col s q → perFact ≤ i → TriedBest col s q k i before best
+      → Chosen col s k before best
+  loop-end k i best conflict h =
+      found-same (col .fact) (OrBefore (col .fact) before (Tried col s q k i)) (OrBefore (col .fact) before (Among col s k))
+      (before-more (col .fact) (Tried col s q k i) (Among col s k) before (λ l t. t .among))
+      (before-more (col .fact) (Among col s k) (Tried col s q k i) before met) (best .any) (best .choice)
+    where
+      met : (l : List ℕ) → Among col s k l → Tried col s q k i l
+      met l a =
+          let m = conflict .meets (isIn l) (a .keeps .right) in
+          record { among = a; code = m .0; below = omega (arith, m .1); repair = m .2; present = m .3 }
 
 -- ---- the whole search of a column
 
@@ -315,41 +283,47 @@ module _ (col : Column) where
   pub nothing-allowed : (s : Choice) → s ≡ nothing → Allowed col s
   nothing-allowed s e = subst (Allowed col) (sym e) (nothing-contained (permitted (cellsIn col)) (col .fact))
 
-  -- A search from the empty candidate looks among all lists of at most so many repairs.
-  from-nothing : (s : Choice) (k : ℕ) (any : Bool) (best : Choice) → s ≡ nothing
-      → Chosen col s (length (listOf (col .fact) s) + k) any best → Chosen col nothing k any best
-  from-nothing s k any best e chosen =
-      subst (λ n. Chosen col nothing n any best) none
-      (subst (λ w. Chosen col w (length (listOf (col .fact) w) + k) any best) e chosen)
-    where
-      none : length (listOf (col .fact) nothing) + k ≡ k
-      none = omega (arith, ap length (nothing-list (col .fact)))
-
   among-all : (k : ℕ) (l : List ℕ) → KeepsIn col l → length l ≤ k → Among col nothing k l
   among-all k l keeps h = record { keeps = keeps; contains = nothing-contained (isIn l) (col .fact); short = h }
 
-  pub shortest-found : (s : Choice) (k : ℕ) (found : Found) → s ≡ nothing → k ≤ maxRow → found .any ≡ true
-      → Chosen col s (length (listOf (col .fact) s) + k) (found .any) (found .choice) → Shortest col (found .any) (found .choice)
-  shortest-found s k found none h e chosen = subst (λ t. Shortest col t (found .choice)) (sym e) (first, omega (arith, best .member .short))
+-- A search from the empty candidate, with nothing found before, looks among all lists of at most so many repairs.
+module _ (col : Column) (s : Choice) (k : ℕ) (none found : Found) (start : s ≡ nothing) (fresh : none .any ≡ false)
+    (chosen : Chosen col s (length (listOf (col .fact) s) + k) none found) where
+  first-all : FirstFound (col .fact) (Among col nothing k) (found .any) (found .choice)
+  first-all =
+      subst (λ n. FirstFound (col .fact) (Among col nothing n) (found .any) (found .choice)) length-none
+      (subst (λ w. FirstFound (col .fact) (Among col w (length (listOf (col .fact) w) + k)) (found .any) (found .choice)) start
+      (found-same (col .fact) (OrBefore (col .fact) none (Among col s (length (listOf (col .fact) s) + k)))
+      (Among col s (length (listOf (col .fact) s) + k)) there (λ l a. OrBefore.here a) (found .any) (found .choice) chosen))
+    where
+      length-none : length (listOf (col .fact) nothing) + k ≡ k
+      length-none = omega (arith, ap length (nothing-list (col .fact)))
+
+      there : (l : List ℕ) → OrBefore (col .fact) none (Among col s (length (listOf (col .fact) s) + k)) l
+          → Among col s (length (listOf (col .fact) s) + k) l
+      there l (OrBefore.before e q) = absurd (false≢true (sym fresh ∙ e))
+      there l (OrBefore.here a) = a
+
+  pub shortest-found : k ≤ maxRow → found .any ≡ true → Shortest col (found .any) (found .choice)
+  shortest-found h e = subst (λ t. Shortest col t (found .choice)) (sym e) (first, omega (arith, best .member .short))
     where
       best : First (Among col nothing k) (listOf (col .fact) (found .choice))
-      best = subst (λ t. Chosen col nothing k t (found .choice)) e (from-nothing s k (found .any) (found .choice) none chosen)
+      best = subst (λ t. FirstFound (col .fact) (Among col nothing k) t (found .choice)) e first-all
 
       pick : (m : List ℕ) → KeepsIn col m → Dec (k < length m) → listOf (col .fact) (found .choice) ≼ m
       pick m keeps (yes longer) = inl (omega (arith, best .member .short))
-      pick m keeps (no no-longer) = best .least m (among-all k m keeps (omega arith))
+      pick m keeps (no no-longer) = best .least m (among-all col k m keeps (omega arith))
 
       first : First (KeepsIn col) (listOf (col .fact) (found .choice))
       first = record { member = best .member .keeps; least = λ m keeps. pick m keeps (decLt k (length m)) }
 
   -- Nothing of at most k repairs: every list has more.
-  pub longer-than : (s : Choice) (k : ℕ) (found : Found) → s ≡ nothing → found .any ≡ false
-      → Chosen col s (length (listOf (col .fact) s) + k) (found .any) (found .choice) → (l : List ℕ) → KeepsIn col l → k + 1 ≤ length l
-  longer-than s k found none e chosen l keeps = pick (decLt k (length l))
+  pub longer-than : found .any ≡ false → (l : List ℕ) → KeepsIn col l → k + 1 ≤ length l
+  longer-than e l keeps = pick (decLt k (length l))
     where
       empty : (l : List ℕ) → Among col nothing k l → ⊥
-      empty = subst (λ t. Chosen col nothing k t (found .choice)) e (from-nothing s k (found .any) (found .choice) none chosen)
+      empty = subst (λ t. FirstFound (col .fact) (Among col nothing k) t (found .choice)) e first-all
 
       pick : Dec (k < length l) → k + 1 ≤ length l
       pick (yes longer) = omega arith
-      pick (no no-longer) = absurd (empty l (among-all k l keeps (omega arith)))
+      pick (no no-longer) = absurd (empty l (among-all col k l keeps (omega arith)))

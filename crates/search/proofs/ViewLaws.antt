@@ -1,26 +1,24 @@
 -- Laws of a task's column: gathering its masks, its fullest choice, and that a list keeps the fact right in the task exactly if it
 -- does so in the column. Assumes nothing.
-use mathlib.Core.Bool.{Bool, true, false, not, _&&_, _||_, cond, or-false, or-true}
+use mathlib.Core.Bool.{Bool, true, false, not, _&&_, cond, or-false, or-true}
 use mathlib.Core.List.{List}
 use mathlib.Core.Logic.{_⊎_, inl, inr, ⊎-elim}
 use mathlib.Core.Path.{_≡_, refl, sym, ap, _∙_, subst}
 use Prim.Native.Nat.{ℕ, suc, _+_, _%_, _<_, _≤_, min}
 use native.Mathlib.Omega.{arith}
-use native.Mathlib.Numerals.{add-one}
 use lib.Dec.{eqb, ltb}
 use lib.ListN.{length, getD, List·getD-eq-default}
-use borrow.Author.Tests.{lt-ltb, le-ltb, ltb-true, eq-eqb, ne-eqb}
+use borrow.Author.Tests.{lt-ltb, le-ltb, eq-eqb, ne-eqb}
 use Rattle.facts.specs.Sets.{has, joined, shared, removed, below, only, width}
 use Rattle.facts.proofs.Laws.{has-empty, has-with, has-shared, has-removed, has-below}
 use Rattle.table.specs.Repairs.{byKind, dropDelete, addEffect, factOf, kindOf, actionOf, permits, permitted, repaired}
 use Rattle.table.specs.Sizes.{maxActions, perFact}
-use Rattle.table.specs.Answer.{Permitted, Keeps}
 use Rattle.table.specs.Order.{isIn}
 use Rattle.table.specs.Strips.{Cells, Course, Right}
 use Rattle.table.specs.Tasks.{WellFormed, cellsOf, courseOf, KeepsFor}
 use Rattle.table.specs.declared.Task.{Task}
 use Rattle.table.proofs.OrderLaws.{compared}
-use Rattle.table.proofs.RepairLaws.{right-more, right-agree}
+use Rattle.table.proofs.RepairLaws.{right-more}
 use Rattle.table.proofs.RunLaws.{SameAt, SameCourseAt, sameAt-sym, sameCourse-sym, right-same}
 use Rattle.table.proofs.RepairNumbers.{permitted-permits}
 use Rattle.search.proofs.SearchLaws.{right-keeps}

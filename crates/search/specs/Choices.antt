@@ -4,9 +4,9 @@ use mathlib.Core.List.{List, [], _∷_}
 use mathlib.Core.Path.{_≡_}
 use Prim.Native.Nat.{ℕ, _+_, _*_, _/_, _%_, _<_}
 use lib.Dec.{eqb}
-use Rattle.facts.specs.Sets.{has, joined, only}
+use Rattle.facts.specs.Sets.{has}
 use Rattle.table.specs.Lists.{gather, piece}
-use Rattle.table.specs.Repairs.{byKind, factOf, dropDelete, addEffect, dropNeed}
+use Rattle.table.specs.Repairs.{byKind, factOf}
 use Rattle.table.specs.Sizes.{perFact, perKind}
 use Rattle.search.specs.declared.Choice.{Choice}
 

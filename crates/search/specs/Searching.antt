@@ -5,12 +5,13 @@ use mathlib.Core.Path.{_≡_}
 use Prim.Native.Nat.{ℕ, _+_, _<_, _≤_}
 use lib.ListN.{length}
 use Rattle.table.specs.Answer.{First}
-use Rattle.table.specs.Order.{isIn}
+use Rattle.table.specs.Order.{isIn, _≼_}
 use Rattle.table.specs.Repairs.{permitted, repaired}
 use Rattle.table.specs.Sizes.{maxRow, perFact}
 use Rattle.table.specs.Strips.{Cells, Right, stateAt}
 use Rattle.search.specs.declared.Column.{Column}
 use Rattle.search.specs.declared.Choice.{Choice}
+use Rattle.search.specs.declared.Found.{Found}
 use Rattle.search.specs.Choices.{inChoice, numbersIn, listOf, codeNumber, Contains}
 use Rattle.search.specs.Columns.{cellsIn, courseIn, KeepsIn}
 
@@ -47,14 +48,27 @@ pub record Among (col : Column) (s : Choice) (k : ℕ) (l : List ℕ) : Type 0 w
   pub contains : Contains (isIn l) (col .fact) s
   pub short : length l ≤ k
 
--- Every list that keeps the fact right and contains the candidate has more than `left` repairs beside the candidate's.
-abbrev pub CostsMore : Column → Choice → ℕ → Type 0
-CostsMore col s left = (l : List ℕ) → Among col s (length (listOf (col .fact) s) + left) l → ⊥
+-- Every list of G comes after the one found before, or is that one; so one was found before, unless G is empty.
+abbrev pub AllAfter : ℕ → Found → (List ℕ → Type 0) → Type 0
+AllAfter f best G = (l : List ℕ) → G l → (best .any ≡ true) × (listOf f (best .choice) ≼ l)
 
--- What `test` and `branch` give: the first of the shortest of them, or nothing exactly if there is none.
-abbrev pub Chosen : Column → Choice → ℕ → Bool → Choice → Type 0
-Chosen col s k true best = First (Among col s k) (listOf (col .fact) best)
-Chosen col s k false best = (l : List ℕ) → Among col s k l → ⊥
+-- None of the candidate's lists with at most `left` repairs more comes before the one found before.
+abbrev pub Later : Column → Choice → ℕ → Found → Type 0
+Later col s left best = AllAfter (col .fact) best (Among col s (length (listOf (col .fact) s) + left))
+
+-- The lists of G, and the one found before, if there is one.
+pub data OrBefore (f : ℕ) (best : Found) (G : List ℕ → Type 0) (l : List ℕ) : Type 0 where
+  before : best .any ≡ true → l ≡ listOf f (best .choice) → OrBefore f best G l
+  here : G l → OrBefore f best G l
+
+-- The first of the shortest lists of G, or nothing exactly if G is empty.
+abbrev pub FirstFound : ℕ → (List ℕ → Type 0) → Bool → Choice → Type 0
+FirstFound f G true r = First G (listOf f r)
+FirstFound f G false r = (l : List ℕ) → G l → ⊥
+
+-- What `test` and `branch` give, of the candidate's lists and the one found before.
+abbrev pub Chosen : Column → Choice → ℕ → Found → Found → Type 0
+Chosen col s k best r = FirstFound (col .fact) (OrBefore (col .fact) best (Among col s k)) (r .any) (r .choice)
 
 -- What the whole search of a column gives: the first of the shortest lists that keep its fact right, if that has at
 -- most six; or nothing, and then every list that does has more.

@@ -1,5 +1,4 @@
--- What the search does with sets of repairs: one repair more, two sets as one, which of two sets comes first, the better
--- of two finds.
+-- What the search does with sets of repairs: one repair more, two sets as one, which of two sets comes first.
 use mathlib.Core.Bool.{Bool, true, false}
 use mathlib.Core.Path.{_≡_}
 use Prim.Native.Nat.{ℕ, _<_, _≤_}
@@ -62,9 +61,7 @@ abbrev pub Earlier : Choice → Choice → Bool → Type 0
 Earlier a b true = (f : ℕ) → listOf f a ≼ listOf f b
 Earlier a b false = (f : ℕ) → listOf f b ≼ listOf f a
 
--- r is the better of two finds: the one that found something, or of two lists the one that comes first.
-pub data Better (a b r : Found) : Type 0 where
-  second-alone : a .any ≡ false → r ≡ b → Better a b r
-  first-alone : b .any ≡ false → r ≡ a → Better a b r
-  first-earlier : a .any ≡ true → Earlier (a .choice) (b .choice) true → r ≡ a → Better a b r
-  second-earlier : b .any ≡ true → Earlier (a .choice) (b .choice) false → r ≡ b → Better a b r
+-- Was a list found before that comes before that of s, or is the same? If not, that of s comes first.
+abbrev pub FoundEarlier : Found → Choice → Bool → Type 0
+FoundEarlier best s true = (best .any ≡ true) × ((f : ℕ) → listOf f (best .choice) ≼ listOf f s)
+FoundEarlier best s false = best .any ≡ true → (f : ℕ) → listOf f s ≼ listOf f (best .choice)

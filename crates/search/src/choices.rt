@@ -17,7 +17,7 @@ ghost use lib.ListN.{length};
 ghost use Rattle.search.specs.Choices.{inChoice, listOf};
 ghost use Rattle.search.specs.Choices as choices;
 ghost use Rattle.facts.specs.Sets.{sumBits};
-ghost use Rattle.search.specs.Trying.{withRepair, bothOf, NextAction, NextIn, FirstUnshared, FirstDifference, Earlier, Better};
+ghost use Rattle.search.specs.Trying.{withRepair, bothOf, NextAction, NextIn, FirstUnshared, FirstDifference, Earlier, FoundEarlier};
 
 pub fn nothing() -> Choice
     ensures { λ r. ⌜ r ≡ choices.nothing ⌝ }
@@ -171,18 +171,12 @@ pub fn comes_first(a: Choice, b: Choice) -> bool
     m < n
 }
 
-// The better of two finds.
-pub fn better(a: Found, b: Found) -> Found
-    ensures { λ r. ⌜ Better a b r ⌝ }
+// Was a list found before that comes before this one, or is this one?
+pub fn found_earlier(best: Found, s: Choice) -> bool
+    ensures { λ r. ⌜ FoundEarlier best s r ⌝ }
 {
-    if !a.any {
-        return b;
+    if !best.any {
+        return false;
     }
-    if !b.any {
-        return a;
-    }
-    if comes_first(a.choice, b.choice) {
-        return a;
-    }
-    b
+    comes_first(best.choice, s)
 }

@@ -1,6 +1,6 @@
 // The search for one fact's least list: a candidate is tested, and where it fails, each repair of its conflict is tried
-// in turn (document 01: "When a candidate still fails .."), unless its conflicts show that no list with it is short
-// enough.
+// in turn (document 01: "When a candidate still fails .."). The first of the shortest lists found so far goes along, and a
+// candidate is left out where its conflicts show that none of its lists is short enough and comes before that one.
 use crate::Choice;
 use crate::Column;
 use crate::Found;
@@ -16,51 +16,45 @@ ghost use Rattle.search.specs.Choices.{listOf};
 ghost use Rattle.search.specs.Columns.{ColumnFormed};
 ghost use Rattle.search.specs.Searching.{Allowed, Conflicts, Chosen, Shortest};
 
-// The first of the shortest lists that keep the fact right, contain the candidate and have at most `left` repairs more.
-pub fn test(col: Column, s: Choice, left: usize) -> Found
+// The better of the list found before and the first of the shortest lists that keep the fact right, contain the candidate
+// and have at most `left` repairs more.
+pub fn test(col: Column, s: Choice, left: usize, best: Found) -> Found
     requires { ⌜ ColumnFormed col ⌝ }
     requires { ⌜ Allowed col s ⌝ }
-    ensures { λ r. ⌜ Chosen col s (length (listOf (col .fact) s) + left) (r .any) (r .choice) ⌝ }
+    ensures { λ r. ⌜ Chosen col s (length (listOf (col .fact) s) + left) best r ⌝ }
 {
     let count = col.count;
     let j = gap::first_gap(col, s);
     if count < j {
+        if choices::found_earlier(best, s) {
+            return best;
+        }
         return Found {
             any: true,
             choice: s,
         };
     }
     if left == 0 {
-        return Found {
-            any: false,
-            choice: s,
-        };
+        return best;
     }
-    if bound::costs_more(col, s, left) {
-        return Found {
-            any: false,
-            choice: s,
-        };
+    if bound::comes_later(col, s, left, best) {
+        return best;
     }
-    branch(col, s, conflict::conflict(col, s, j), left)
+    branch(col, s, conflict::conflict(col, s, j), left, best)
 }
 
 // The same, for a candidate that fails: every list that contains it has one of the conflict's repairs.
-pub fn branch(col: Column, s: Choice, q: Choice, left: usize) -> Found
+pub fn branch(col: Column, s: Choice, q: Choice, left: usize, best: Found) -> Found
     requires { ⌜ ColumnFormed col ⌝ }
     requires { ⌜ Allowed col s ⌝ }
     requires { ⌜ Conflicts col s q ⌝ }
     requires { ⌜ 0 < left ⌝ }
-    ensures { λ r. ⌜ Chosen col s (length (listOf (col .fact) s) + left) (r .any) (r .choice) ⌝ }
+    ensures { λ r. ⌜ Chosen col s (length (listOf (col .fact) s) + left) best r ⌝ }
 {
-    let mut best = Found {
-        any: false,
-        choice: s,
-    };
+    let mut best = best;
     let mut code = choices::next_in(q, 0);
     while code < Repair::PER_FACT {
-        let found = test(col, choices::with_repair(s, code), left - 1);
-        best = choices::better(best, found);
+        best = test(col, choices::with_repair(s, code), left - 1, best);
         code = choices::next_in(q, code + 1);
     }
     best
@@ -72,14 +66,15 @@ pub fn shortest(col: Column) -> Found
     requires { ⌜ ColumnFormed col ⌝ }
     ensures { λ r. ⌜ Shortest col (r .any) (r .choice) ⌝ }
 {
+    let none = Found {
+        any: false,
+        choice: choices::nothing(),
+    };
     for left in 0..=ROW {
-        let found = test(col, choices::nothing(), left);
+        let found = test(col, choices::nothing(), left, none);
         if found.any {
             return found;
         }
     }
-    Found {
-        any: false,
-        choice: choices::nothing(),
-    }
+    none
 }

@@ -7,7 +7,6 @@ ghost use mathlib.Core.Bool.{cond};
 ghost use mathlib.Core.Path.{_≡_};
 ghost use lib.ListN.{getD};
 ghost use Rattle.facts.specs.Sets.{joined, only};
-ghost use Rattle.table.specs.Tasks.{WellFormed};
 ghost use Rattle.search.specs.Columns.{ColumnFormed};
 ghost use Rattle.search.specs.Views.{Gathers, Shows, Fullest};
 

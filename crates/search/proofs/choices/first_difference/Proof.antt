@@ -3,7 +3,7 @@ use Prim.Native.Nat.{_+_, _*_}
 use native.Mathlib.Omega.{arith}
 use borrow.Author.Needs.{needs}
 use Rattle.table.specs.Repairs.{dropDelete, addEffect, dropNeed}
-use Rattle.table.specs.Sizes.{perFact, perKind}
+use Rattle.table.specs.Sizes.{perKind}
 use Rattle.search.proofs.MaskLaws.{SameBelow, same-through, differs-here}
 use Rattle.search.proofs.choices.first_difference.Statement.{statement}
 use Rattle.search.proofs.choices.first_difference.Tie as tie

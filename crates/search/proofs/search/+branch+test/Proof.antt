@@ -1,6 +1,6 @@
 -- The cycle of calls of `search::search::test` and `branch`: `branch` at left calls `test` at left - 1, and `test` calls
 -- `branch` at the same left, so the measures are 2 left for `branch` and 2 left + 1 for `test`.
--- The loop's invariant: the best of the lists that have a repair of the conflict below the code.
+-- The loop's invariant: the first found of the list found before and the lists that have a repair of the conflict below the code.
 use mathlib.Core.Bool.{true}
 use mathlib.Core.Path.{_≡_, sym, subst}
 use Prim.Native.Nat.{ℕ, _+_, _*_, _-_, _<_, _≤_}
@@ -13,16 +13,17 @@ use borrow.Fn.PlainCycle.{Measures, is, falls, and}
 use Rattle.table.specs.Sizes.{perFact}
 use Rattle.search.specs.Choices.{inChoice, listOf}
 use Rattle.search.specs.Searching.{Allowed, Chosen}
-use Rattle.search.proofs.BoundLaws.{shared-none, shared-end}
-use Rattle.search.proofs.SearchLaws.{Tried, loop-first, loop-next, loop-end, allowed-with, candidate-first, gap-right, gap-missing}
+use Rattle.search.specs.Trying.{FoundEarlier}
+use Rattle.search.proofs.BoundLaws.{shared-none, shared-end, shared-later}
+use Rattle.search.proofs.SearchLaws.{TriedBest, loop-first, loop-next, loop-end, allowed-with, later-stays, candidate-taken, gap-right, gap-missing}
 use Rattle.search.proofs.search.branch.Reads as branch
 use Rattle.search.proofs.search.branch.Kinds as branch-kinds
 use Rattle.search.proofs.search.+branch+test.Lts-branch as branch-lts
 use Rattle.search.proofs.search.test.Reads as test
 use Rattle.search.proofs.search.test.Kinds as test-kinds
 use Rattle.search.proofs.search.+branch+test.Lts-test as test-lts
-use Rattle.search.proofs.bound.costs_more.Reads as costs-more-reads
-use Rattle.search.proofs.choices.better.Reads as better-reads
+use Rattle.search.proofs.bound.comes_later.Reads as comes-later-reads
+use Rattle.search.proofs.choices.found_earlier.Reads as found-earlier-reads
 use Rattle.search.proofs.choices.next_in.Reads as next-in-reads
 use Rattle.search.proofs.choices.with_repair.Reads as with-repair-reads
 use Rattle.search.proofs.conflict.conflict.Reads as conflict-reads
@@ -57,16 +58,16 @@ B t = (
   with-repair-reads.Learnt,
   test-below t,
   test.Post,
-  better-reads.Asked,
-  better-reads.Learnt,
 )
 
 abbrev T : ℕ → test-lts.Claims
 T t = (
   first-gap-reads.Asked,
   first-gap-reads.Learnt,
-  costs-more-reads.Asked,
-  costs-more-reads.Learnt,
+  found-earlier-reads.Asked,
+  found-earlier-reads.Learnt,
+  comes-later-reads.Asked,
+  comes-later-reads.Learnt,
   conflict-reads.Asked,
   conflict-reads.Learnt,
   branch-below t,
@@ -75,7 +76,7 @@ T t = (
 
 abbrev branch-Inv-loop : branch-lts.InvT-loop
 branch-Inv-loop col s q left best₀ code₀ best code =
-    (code ≤ perFact) × (code < perFact → inChoice q code ≡ true) × Tried col s q (length (listOf (col .fact) s) + left) code best
+    (code ≤ perFact) × (code < perFact → inChoice q code ≡ true) × TriedBest col s q (length (listOf (col .fact) s) + left) code best₀ best
 
 abbrev branch-μ-loop : branch-lts.MeasureT-loop
 branch-μ-loop col s q left best₀ code₀ best code = perFact - code
@@ -88,7 +89,7 @@ branch-loop-holds t c =
     let a = c .before .args in (
       c .next-in .ensures .within,
       c .next-in .ensures .present,
-      loop-first (a .col) (a .s) (a .q) (length (listOf (a .col .fact) (a .s)) + a .left) (c .next-in .result) (c .next-in .ensures),
+      loop-first (a .col) (a .s) (a .q) (a .best) (length (listOf (a .col .fact) (a .s)) + a .left) (c .next-in .result) (c .next-in .ensures),
     )
 
 branch-with-repair-requires : (t : ℕ) → branch-lts.Need-with-repair-requires (B t) (branch-at t) branch.Post branch-Inv-loop branch-μ-loop
@@ -112,9 +113,6 @@ branch-test-requires t c κs =
       ),
     )
 
-branch-better-requires : (t : ℕ) → branch-lts.Need-better-requires (B t) (branch-at t) branch.Post branch-Inv-loop branch-μ-loop
-branch-better-requires t c κs = search needs
-
 branch-add-next-in : (t : ℕ) → branch-lts.Need-add-next-in (B t) (branch-at t) branch.Post branch-Inv-loop branch-μ-loop
 branch-add-next-in t c = omega arith
 
@@ -126,48 +124,63 @@ branch-loop-less t c = omega (arith, c .next-in2 .ensures .after)
 
 branch-loop-again : (t : ℕ) → branch-lts.Need-loop-again (B t) (branch-at t) branch.Post branch-Inv-loop branch-μ-loop
 branch-loop-again t c =
-    let a = c .before .before .before .before .before .before .before .args in
-    let p = c .before .before .before .before .before .before .before .pre in
-    let here = c .before .before .before .before .before .loop in
-    let below : here .code < perFact = c .before .before .before .before .loop-test .taken in
-    let more = c .before .before .before .with-repair in
-    let found = c .before .before .test in (
+    let a = c .before .before .before .before .before .before .args in
+    let p = c .before .before .before .before .before .before .pre in
+    let here = c .before .before .before .before .loop in
+    let below : here .code < perFact = c .before .before .before .loop-test .taken in
+    let more = c .before .before .with-repair in
+    let found = c .before .test in (
       c .next-in2 .ensures .within,
       c .next-in2 .ensures .present,
-      loop-next (a .col) (a .s) (a .q) (a .left) (here .code) (c .next-in2 .result) (here .best) (found .result) (c .before .better .result)
+      loop-next (a .col) (a .s) (a .q) (a .best) (a .left) (here .code) (c .next-in2 .result) (here .best) (found .result)
           (p .1 .1 .1 .0) (p .1 .1 .1 .1) below (c .next-in2 .ensures) (here .inv .1 below) (here .inv .2)
-          (subst (λ w. Chosen (a .col) w (length (listOf (a .col .fact) w) + (a .left - 1)) (found .result .any) (found .result .choice))
-          (more .ensures) (found .ensures)) (c .before .better .ensures),
+          (subst (λ w. Chosen (a .col) w (length (listOf (a .col .fact) w) + (a .left - 1)) (here .best) (found .result))
+          (more .ensures) (found .ensures)),
     )
 
 branch-returns : (t : ℕ) → branch-lts.Need-returns (B t) (branch-at t) branch.Post branch-Inv-loop branch-μ-loop
 branch-returns t c =
     let a = c .before .before .before .args in
     let p = c .before .before .before .pre in
-    loop-end (a .col) (a .s) (a .q) (length (listOf (a .col .fact) (a .s)) + a .left) (c .before .loop .code) (c .before .loop .best)
+    loop-end (a .col) (a .s) (a .q) (a .best) (length (listOf (a .col .fact) (a .s)) + a .left) (c .before .loop .code) (c .before .loop .best)
     (p .1 .1 .1 .0) (c .loop-test .left) (c .before .loop .inv .2)
 
 test-first-gap-requires : (t : ℕ) → test-lts.Need-first-gap-requires (T t) (test-at t) test.Post
 test-first-gap-requires t c κs = c .pre .1 .0
 
+test-found-earlier-requires : (t : ℕ) → test-lts.Need-found-earlier-requires (T t) (test-at t) test.Post
+test-found-earlier-requires t c κs = search needs
+
 test-returns : (t : ℕ) → test-lts.Need-returns (T t) (test-at t) test.Post
 test-returns t c =
-    let a = c .before .before .args in
-    candidate-first (a .col) (a .s) (a .left) (c .before .before .pre .1 .1)
-    (gap-right (a .col) (a .s) (c .before .first-gap .result) (c .before .first-gap .ensures) (c .if1 .taken))
+    let a = c .before .before .before .before .args in
+    later-stays (a .col) (a .s) (a .left) (a .best)
+    (shared-later (a .col) (a .s) (a .s) (a .s) 0 (a .left) (a .best) (shared-none (a .col) (a .s))
+    (subst (FoundEarlier (a .best) (a .s)) (c .if2 .taken) (c .before .found-earlier .ensures)))
 
 test-returns-2 : (t : ℕ) → test-lts.Need-returns-2 (T t) (test-at t) test.Post
 test-returns-2 t c =
-    let a = c .before .before .before .args in
-    let gap = c .before .before .first-gap in
-    shared-end (a .col) (a .s) (a .s) 0 (a .left) (gap .result) (omega (arith, c .if2 .taken)) (shared-none (a .col) (a .s))
-    (gap-missing (a .col) (a .s) (gap .result) (gap .ensures) (c .before .if1 .left))
-
-test-costs-more-requires : (t : ℕ) → test-lts.Need-costs-more-requires (T t) (test-at t) test.Post
-test-costs-more-requires t c κs = c .before .before .before .pre .1 .0
+    let a = c .before .before .before .before .args in
+    let gap = c .before .before .before .first-gap in
+    candidate-taken (a .col) (a .s) (a .left) (a .best) (c .before .before .before .before .pre .1 .1)
+    (gap-right (a .col) (a .s) (gap .result) (gap .ensures) (c .before .before .if1 .taken))
+    (subst (FoundEarlier (a .best) (a .s)) (c .if2 .left) (c .before .found-earlier .ensures))
 
 test-returns-3 : (t : ℕ) → test-lts.Need-returns-3 (T t) (test-at t) test.Post
-test-returns-3 t c = c .before .costs-more .ensures (c .if3 .taken)
+test-returns-3 t c =
+    let a = c .before .before .before .args in
+    let gap = c .before .before .first-gap in
+    later-stays (a .col) (a .s) (a .left) (a .best)
+    (shared-end (a .col) (a .s) (a .s) (a .s) 0 (a .left) (gap .result) (a .best) (omega (arith, c .if3 .taken)) (shared-none (a .col) (a .s))
+    (gap-missing (a .col) (a .s) (gap .result) (gap .ensures) (c .before .if1 .left)))
+
+test-comes-later-requires : (t : ℕ) → test-lts.Need-comes-later-requires (T t) (test-at t) test.Post
+test-comes-later-requires t c κs = c .before .before .before .pre .1 .0
+
+test-returns-4 : (t : ℕ) → test-lts.Need-returns-4 (T t) (test-at t) test.Post
+test-returns-4 t c =
+    let a = c .before .before .before .before .before .args in
+    later-stays (a .col) (a .s) (a .left) (a .best) (c .before .comes-later .ensures (c .if4 .taken))
 
 test-conflict-requires : (t : ℕ) → test-lts.Need-conflict-requires (T t) (test-at t) test.Post
 test-conflict-requires t c κs =
@@ -180,18 +193,18 @@ test-branch-requires t c κs =
     let a = c .before .before .before .before .before .before .args in
     let p = c .before .before .before .before .before .before .pre in
     let less : 2 * a .left < t = omega (arith, p .0) in
-    (less, (p .1 .0, (p .1 .1, (c .conflict .ensures, pos-of-ne-zero (c .before .before .before .if2 .left)))))
+    (less, (p .1 .0, (p .1 .1, (c .conflict .ensures, pos-of-ne-zero (c .before .before .before .if3 .left)))))
 
-test-returns-4 : (t : ℕ) → test-lts.Need-returns-4 (T t) (test-at t) test.Post
-test-returns-4 t c = c .branch .ensures
+test-returns-5 : (t : ℕ) → test-lts.Need-returns-5 (T t) (test-at t) test.Post
+test-returns-5 t c = c .branch .ensures
 
 pub +branch+test-spec : {M : Type 1} → statement M
 +branch+test-spec =
     close μ-branch μ-test
     (λ t.
     branch-lts.spec (B t) (branch-at t) branch.Post branch-Inv-loop branch-μ-loop (branch-next-in-requires t) (branch-loop-holds t)
-    (branch-with-repair-requires t) (branch-sub-test t) (branch-test-requires t) (branch-better-requires t) (branch-add-next-in t)
+    (branch-with-repair-requires t) (branch-sub-test t) (branch-test-requires t) (branch-add-next-in t)
     (branch-next-in-requires-2 t) (branch-loop-less t) (branch-loop-again t) (branch-returns t))
     (λ t.
-    test-lts.spec (T t) (test-at t) test.Post (test-first-gap-requires t) (test-returns t) (test-returns-2 t)
-    (test-costs-more-requires t) (test-returns-3 t) (test-conflict-requires t) (test-branch-requires t) (test-returns-4 t))
+    test-lts.spec (T t) (test-at t) test.Post (test-first-gap-requires t) (test-found-earlier-requires t) (test-returns t) (test-returns-2 t)
+    (test-returns-3 t) (test-comes-later-requires t) (test-returns-4 t) (test-conflict-requires t) (test-branch-requires t) (test-returns-5 t))

@@ -1,36 +1,49 @@
 -- `search::search::shortest` tries the lengths in turn: when it comes to a length, every list has at least so many.
+use mathlib.Core.Bool.{false}
 use mathlib.Core.List.{List}
+use mathlib.Core.Path.{refl}
 use Prim.Native.Nat.{ℕ, _+_, _-_, _≤_}
 use native.Mathlib.Omega.{arith}
 use lib.ListN.{length}
 use borrow.Author.Needs.{needs}
 use Rattle.table.specs.Sizes.{maxRow}
+use Rattle.search.specs.declared.Choice.{Choice}
+use Rattle.search.specs.declared.Found.{Found}
 use Rattle.search.specs.Columns.{KeepsIn}
 use Rattle.search.proofs.SearchLaws.{nothing-allowed, shortest-found, longer-than}
 use Rattle.search.proofs.search.shortest.Statement.{statement}
 use Rattle.search.proofs.search.shortest.Tie as tie
 
 abbrev Inv-loop : tie.InvT-loop
-Inv-loop col left₀ left = (left ≤ maxRow + 1) × ((l : List ℕ) → KeepsIn col l → left ≤ length l)
+Inv-loop col none left₀ left = (left ≤ maxRow + 1) × ((l : List ℕ) → KeepsIn col l → left ≤ length l)
 
 abbrev μ-loop : tie.MeasureT-loop
-μ-loop col left₀ left = maxRow + 1 - left
+μ-loop col none left₀ left = maxRow + 1 - left
 
-loop-holds : tie.Need-loop-holds Inv-loop μ-loop
-loop-holds c = (omega arith, λ l keeps. omega arith)
+-- what is found before the search: nothing
+abbrev none : Choice → Found
+none s = record { any = false; choice = s }
 
 nothing-requires : tie.Need-nothing-requires Inv-loop μ-loop
 nothing-requires c κs = search needs
 
+loop-holds : tie.Need-loop-holds Inv-loop μ-loop
+loop-holds c = (omega arith, λ l keeps. omega arith)
+
+nothing-requires-2 : tie.Need-nothing-requires-2 Inv-loop μ-loop
+nothing-requires-2 c κs = search needs
+
 test-requires : tie.Need-test-requires Inv-loop μ-loop
 test-requires c κs =
-    (c .before .before .before .pre, nothing-allowed (c .before .before .before .args .col) (c .nothing .result) (c .nothing .ensures))
+    let at = c .before .before .before .before in
+    (at .pre, nothing-allowed (at .args .col) (c .nothing2 .result) (c .nothing2 .ensures))
 
 returns : tie.Need-returns Inv-loop μ-loop
 returns c =
-    let from = c .before .before .nothing in
-    shortest-found (c .before .before .before .before .before .args .col) (from .result) (c .before .before .before .before .loop .left)
-    (c .before .test .result) (from .ensures) (omega arith) (c .if1 .taken) (c .before .test .ensures)
+    let from = c .before .before .nothing2 in
+    let at = c .before .before .before .before in
+    shortest-found (at .before .before .args .col) (from .result) (at .loop .left) (none (at .before .nothing .result)) (c .before .test .result)
+    (from .ensures) refl (c .before .test .ensures) (omega arith) (c .if1 .taken)
 
 add-left : tie.Need-add-left Inv-loop μ-loop
 add-left c = omega arith
@@ -40,17 +53,15 @@ loop-less c = omega arith
 
 loop-again : tie.Need-loop-again Inv-loop μ-loop
 loop-again c =
-    let from = c .before .before .nothing in (
+    let from = c .before .before .nothing2 in
+    let at = c .before .before .before .before in (
       omega arith,
-      longer-than (c .before .before .before .before .before .args .col) (from .result) (c .before .before .before .before .loop .left)
-          (c .before .test .result) (from .ensures) (c .if1 .left) (c .before .test .ensures),
+      longer-than (at .before .before .args .col) (from .result) (at .loop .left) (none (at .before .nothing .result)) (c .before .test .result)
+          (from .ensures) refl (c .before .test .ensures) (c .if1 .left),
     )
 
-nothing-requires-2 : tie.Need-nothing-requires-2 Inv-loop μ-loop
-nothing-requires-2 c κs = search needs
-
 returns-2 : tie.Need-returns-2 Inv-loop μ-loop
-returns-2 c = λ l keeps. omega (arith, c .before .before .loop .inv .1 l keeps)
+returns-2 c = λ l keeps. omega (arith, c .before .loop .inv .1 l keeps)
 
 pub shortest-spec : {M : Type 1} → statement M
 shortest-spec =
@@ -58,12 +69,12 @@ shortest-spec =
     (tie.spec
     Inv-loop
     μ-loop
-    loop-holds
     nothing-requires
+    loop-holds
+    nothing-requires-2
     test-requires
     returns
     add-left
     loop-less
     loop-again
-    nothing-requires-2
     returns-2)

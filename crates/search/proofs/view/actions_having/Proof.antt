@@ -2,7 +2,7 @@
 use Prim.Native.Nat.{_≤_, _-_}
 use native.Mathlib.Omega.{arith}
 use borrow.Author.Needs.{needs}
-use lib.ListN.{length, getD}
+use lib.ListN.{getD}
 use Rattle.table.specs.Sizes.{maxActions}
 use Rattle.search.proofs.ViewLaws.{GathersBelow, gathers-none, gathers-more, gathers-end}
 use Rattle.search.proofs.view.actions_having.Statement.{statement}
