@@ -1,5 +1,5 @@
 -- Applying a list: document 01, "Applying a list changes all its cells at once", and refusals 12 and 15.
-use mathlib.Core.Bool.{Bool, true, false, cond, not, _&&_, _||_}
+use mathlib.Core.Bool.{Bool, not, _&&_, _||_}
 use mathlib.Core.List.{List, [], _∷_}
 use mathlib.Core.Path.{_≡_}
 use Prim.Native.Nat.{ℕ, _-_}
@@ -7,12 +7,11 @@ use lib.Dec.{leb, ltb}
 use lib.ListN.{length, getD}
 use Rattle.table.specs.Counting.{firstWhere}
 use Rattle.table.specs.Order.{isIn}
-use Rattle.table.specs.Refusals.{Check, Refusal, firstOf, refuse, refuseAt, accepted, notWellFormed, listNotPermitted}
+use Rattle.table.specs.Refusals.{Refusal, firstOf, refuse, refuseAt, accepted, notWellFormed, listNotPermitted}
 use Rattle.table.specs.Repairs.{permitted, repaired}
 use Rattle.table.specs.Strips.{Cells}
 use Rattle.table.specs.Tasks.{cellsOf, formed, Shaped}
 use Rattle.table.specs.declared.Task.{Task}
-use Rattle.table.specs.declared.Table.{Table}
 use Rattle.change.specs.declared.Applied.{Applied}
 
 -- 15: the number at an index does not ascend, or names no permitted repair.

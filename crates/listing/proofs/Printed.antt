@@ -5,8 +5,8 @@ use mathlib.Core.Path.{_≡_, refl}
 use Rattle.table.specs.Refusals.{accepted, bytesAfterEnd, overTheLimit, notWellFormed}
 use Rattle.table.specs.declared.Task.{Task}
 use Rattle.runcheck.specs.declared.Checked.{Checked}
-use Rattle.table.specs.Outcomes.{Outcome, refused, answered}
-use Rattle.taskfile.specs.Reading.{noTask, acceptedRead, refusedRead}
+use Rattle.table.specs.Outcomes.{refused, answered}
+use Rattle.taskfile.specs.Reading.{acceptedRead, refusedRead}
 use Rattle.listing.specs.Ascii.{bytesOf}
 use Rattle.listing.specs.Listing.{answerRoom}
 use Rattle.listing.specs.Text.{digits, each, line, readText, textOf}

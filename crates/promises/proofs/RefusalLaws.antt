@@ -4,7 +4,6 @@ use mathlib.Core.List.{List, [], _∷_}
 use mathlib.Core.Path.{_≡_, refl, ap, _∙_, subst}
 use Prim.Native.Nat.{ℕ, _<_, _≤_}
 use native.Mathlib.Omega.{arith}
-use lib.Dec.{eqb, ltb}
 use lib.ListN.{length}
 use Rattle.change.proofs.ApplyLaws.{applies-unformed, applies-wrong, applies-made, applies-unique}
 use Rattle.change.proofs.PermittedLaws.{firstWrong-le, permitted-list}
@@ -16,16 +15,15 @@ use Rattle.runcheck.specs.OpenNeeds.{checked}
 use Rattle.session.specs.Calls.{listed}
 use Rattle.session.specs.Sessions.{inForm}
 use Rattle.solve.specs.Solving.{told, Solves}
-use Rattle.table.specs.Outcomes.{Outcome, refused, answered, given}
+use Rattle.table.specs.Outcomes.{Outcome, refused, given}
 use Rattle.solve.specs.Tables.{rowAt}
 use Rattle.search.specs.Rows.{verdictIn}
 use Rattle.table.proofs.FlagLaws.{by-order}
 use Rattle.table.proofs.OutcomeLaws.{given-keeps}
 use Rattle.table.specs.Answer.{Verdict, found, over, hopeless, Permitted}
 use Rattle.table.specs.Join.{joinVerdicts}
-use Rattle.table.specs.Refusals.{Check, Refusal, firstOf, accepted, bytesAfterEnd, roomTooShort, notWellFormed, notASession, listNotPermitted}
+use Rattle.table.specs.Refusals.{Check, Refusal, firstOf, accepted, bytesAfterEnd, notWellFormed, notASession, listNotPermitted}
 use Rattle.table.specs.Tasks.{cellsOf, formed, Shaped, WellFormed}
-use Rattle.table.specs.declared.Reply.{Reply}
 use Rattle.table.specs.declared.Task.{Task}
 use Rattle.taskfile.proofs.Files.{accepted-exactly, accepted-read}
 use Rattle.taskfile.specs.Format.{fileOf}

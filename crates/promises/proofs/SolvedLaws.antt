@@ -1,5 +1,4 @@
 -- What demand 2 needs of the solve's contract: what each of its numbers says of the permitted lists. Assumes nothing.
-use mathlib.Core.Bool.{Bool, true, false, cond}
 use mathlib.Core.List.{List}
 use mathlib.Core.Logic.{inl, inr, _↔_}
 use mathlib.Core.Path.{_≡_, refl, sym, ap, _∙_, subst}

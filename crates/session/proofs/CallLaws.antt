@@ -14,11 +14,11 @@ use Rattle.change.specs.declared.Cell.the-variants.{Need, Add, Delete, Start, G
 use Rattle.change.specs.declared.Edit.{Edit}
 use Rattle.solve.proofs.RowLaws.{stored-unique, rewritten-unique}
 use Rattle.solve.specs.Solving.{told}
-use Rattle.table.specs.Outcomes.{Outcome, refused}
+use Rattle.table.specs.Outcomes.{refused}
 use Rattle.solve.specs.Tables.{verdictAt, Stored, Rewritten}
 use Rattle.table.proofs.FlagLaws.{and-right}
 use Rattle.table.proofs.Formation.{well-formed}
-use Rattle.table.specs.Refusals.{Refusal, Check, firstOf, refuse, none, accepted, notWellFormed, notASession, editOutside}
+use Rattle.table.specs.Refusals.{Refusal, firstOf, refuse, none, accepted, notWellFormed, notASession, editOutside}
 use Rattle.table.specs.Join.{joinVerdicts}
 use Rattle.table.specs.Sizes.{maxFacts, sessionPlaces}
 use Rattle.table.specs.Tasks.{WellFormed, formed}

@@ -1,26 +1,25 @@
 -- Demand 3: "I could not test an edited table without solving all of it again." Whatever is edited after opening, listing says what a
 -- fresh solve of the edited task would say, and the rows that no edit named are as opening wrote them. From the calls' contracts alone,
 -- by induction over the edits. Assumes nothing.
-use mathlib.Core.Bool.{Bool, true, false, cond, not, false≢true}
+use mathlib.Core.Bool.{Bool, true, false, cond, false≢true}
 use mathlib.Core.List.{List, [], _∷_}
 use mathlib.Core.Path.{_≡_, refl, sym, ap, _∙_, subst}
 use Prim.Native.Nat.{ℕ, _<_}
 use native.Mathlib.Omega.{arith}
 use lib.Dec.{eqb}
 use lib.ListN.{length}
-use borrow.Author.Tests.{eqb-true, eqb-false, eq-eqb}
+use borrow.Author.Tests.{eqb-true, eqb-false}
 use Rattle.change.proofs.EditLaws.{edited-well, keeps-elsewhere, keeps-elsewhere-back}
 use Rattle.change.specs.Editing.{edited, cellFact, cellInside}
 use Rattle.change.specs.declared.Edit.{Edit}
 use Rattle.search.specs.Rows.{RightRow}
 use Rattle.solve.proofs.RowLaws.{stored-unique}
 use Rattle.solve.proofs.SolveLaws.{solves-told, solve-unique}
-use Rattle.solve.specs.Solving.{told, Solves}
+use Rattle.solve.specs.Solving.{Solves}
 use Rattle.table.specs.Outcomes.{Outcome}
-use Rattle.solve.specs.Tables.{rowAt, verdictAt, Stored, Rewritten}
+use Rattle.solve.specs.Tables.{rowAt, Stored, Rewritten}
 use Rattle.table.proofs.AnswerLaws.{within-same}
 use Rattle.table.proofs.Formation.{well-formed, formed-well}
-use Rattle.table.specs.Join.{joinVerdicts}
 use Rattle.table.specs.Refusals.{accepted}
 use Rattle.table.specs.Sizes.{maxFacts, maxRow, sessionPlaces}
 use Rattle.table.specs.Tasks.{KeepsFor, Shaped, WellFormed}
@@ -28,7 +27,7 @@ use Rattle.table.specs.declared.Reply.{Reply}
 use Rattle.table.specs.declared.Task.{Task}
 use Rattle.session.proofs.CallLaws.{open-clear, open-accepted, edit-clear, edit-outside}
 use Rattle.session.proofs.FormLaws.{stored-in-form}
-use Rattle.session.specs.Calls.{openRefusal, Opens, Edits, listed, Story, told-all, then, madeBy, names}
+use Rattle.session.specs.Calls.{openRefusal, Opens, listed, Story, told-all, then, madeBy, names}
 use Rattle.session.specs.Replays.{editsIn, WholeSession}
 use Rattle.session.specs.declared.Edited.{Edited}
 

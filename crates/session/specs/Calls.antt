@@ -12,7 +12,7 @@ use Rattle.solve.specs.Solving.{told}
 use Rattle.table.specs.Outcomes.{Outcome, refused}
 use Rattle.solve.specs.Tables.{rowAt, Stored, Rewritten}
 use Rattle.table.specs.Join.{joinVerdicts}
-use Rattle.table.specs.Refusals.{Check, Refusal, firstOf, refuse, accepted, notWellFormed, notASession, editOutside}
+use Rattle.table.specs.Refusals.{Refusal, firstOf, refuse, accepted, notWellFormed, notASession, editOutside}
 use Rattle.table.specs.Sizes.{sessionPlaces}
 use Rattle.table.specs.Tasks.{formed}
 use Rattle.table.specs.declared.Task.{Task}

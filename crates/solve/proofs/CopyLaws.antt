@@ -1,12 +1,12 @@
 -- Laws of a list with part of another one copied into it: a loop that copies number by number, and what stands where afterwards.
 -- Assumes nothing.
-use mathlib.Core.List.{List, [], _∷_, _++_}
-use mathlib.Core.Path.{_≡_, refl, sym, ap, _∙_, subst}
-use Prim.Native.Nat.{ℕ, zero, suc, _+_, _-_, _<_, _≤_}
+use mathlib.Core.List.{List, _++_}
+use mathlib.Core.Path.{_≡_, sym, ap, _∙_, subst}
+use Prim.Native.Nat.{ℕ, _+_, _-_, _<_, _≤_}
 use native.Mathlib.Numerals.{add-one}
 use native.Mathlib.Omega.{arith}
 use lib.ListN.{length, getD, take, drop, set, List·getD-append, length-drop}
-use lib.Seq.{paste-zero, paste-suc, length-paste, length-paste-head, drop-paste, take-paste, getD-take, getD-drop, length-take-le, getD-append-add}
+use lib.Seq.{paste-zero, paste-suc, length-paste, length-paste-head, drop-paste, getD-take, getD-drop, length-take-le, getD-append-add}
 use Rattle.solve.specs.Copies.{pasted}
 
 module _ (s : List ℕ) (at : ℕ) (l : List ℕ) where

@@ -1,6 +1,6 @@
 -- The fullest list of a fact, all its permitted repairs: with a step in the run it keeps the fact right. (Every need of the fact is dropped,
 -- and every action adds it, the last step's too.) So with a step some list works. Assumes nothing.
-use mathlib.Core.Bool.{Bool, true, false, not, _&&_, _||_, cond, false≢true}
+use mathlib.Core.Bool.{Bool, true, false, not, _&&_, _||_, false≢true}
 use mathlib.Core.List.{List, [], _∷_, _++_}
 use mathlib.Core.Logic.{_⊎_, inl, inr}
 use mathlib.Core.Path.{_≡_, refl, sym, ap, _∙_, subst}

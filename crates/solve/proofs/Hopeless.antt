@@ -1,17 +1,15 @@
 -- "Refusal 9 occurs here only with no steps and a goal absent at the start": no list works exactly then. Assumes nothing.
-use mathlib.Core.Bool.{Bool, true, false, not, cond, _&&_, _||_, false≢true, true≢false}
+use mathlib.Core.Bool.{Bool, true, false, not, _&&_, _||_, false≢true, true≢false}
 use mathlib.Core.List.{List, []}
 use mathlib.Core.Path.{_≡_, refl, sym, ap, _∙_, subst}
-use Prim.Native.Nat.{ℕ, zero, suc, _+_, _<_, _≤_}
+use Prim.Native.Nat.{ℕ, zero, suc, _<_, _≤_}
 use native.Mathlib.Omega.{arith}
 use borrow.Author.Tests.{not-true, not-false}
-use lib.Dec.{ltb}
-use lib.ListN.{length}
 use Rattle.facts.specs.Sets.{has}
 use Rattle.table.specs.Counting.{someBelow}
-use Rattle.table.specs.Answer.{Verdict, found, over, hopeless, Works, Within}
+use Rattle.table.specs.Answer.{Verdict, found, over, hopeless, Within}
 use Rattle.table.specs.Order.{isIn}
-use Rattle.table.specs.Refusals.{noListWorks, roomTooShort}
+use Rattle.table.specs.Refusals.{noListWorks}
 use Rattle.table.specs.Repairs.{repaired}
 use Rattle.table.specs.Strips.{Right, stateAt}
 use Rattle.table.specs.Tasks.{cellsOf, courseOf, WorksFor, WellFormed}

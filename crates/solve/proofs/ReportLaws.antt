@@ -1,23 +1,22 @@
 -- Laws of the report: what one row more adds to the tally and to the room, and what the tally tells.
 -- Assumes nothing.
 use mathlib.Core.Bool.{Bool, true, false, cond, _||_}
-use mathlib.Core.List.{List, [], _∷_, _++_, append-assoc}
+use mathlib.Core.List.{List, _++_}
 use mathlib.Core.Path.{_≡_, refl, sym, ap, _∙_, subst}
 use Prim.Native.Nat.{ℕ, zero, suc, _+_, _-_, _*_, _<_, _≤_}
 use native.Mathlib.Omega.{arith}
 use lib.Dec.{eqb, leb, ltb}
 use lib.ListN.{length, getD, take, drop, length-append, length-drop}
 use lib.Seq.{getD-take, getD-drop, ext-getD, length-take-le, take-append-seam, drop-append-add, drop-drop}
-use borrow.Author.Tests.{eqb-true, eqb-false, leb-true, leb-false, le-leb, lt-leb, lt-ltb, le-ltb}
+use borrow.Author.Tests.{eqb-true, eqb-false, leb-true, leb-false, le-leb, lt-leb}
 use Rattle.search.specs.Rows.{rowOver, rowHopeless, verdictIn}
 use Rattle.table.specs.Counting.{someBelow}
 use Rattle.table.specs.Answer.{Verdict, found, over, hopeless}
 use Rattle.table.specs.Join.{isHopeless, isOver, foundList, joinLists, joinVerdicts}
 use Rattle.table.specs.Refusals.{accepted, noListWorks, overTheLimit, roomTooShort}
-use Rattle.table.specs.Sizes.{maxFacts, maxRow, rowPlaces, sessionPlaces}
+use Rattle.table.specs.Sizes.{maxFacts, maxRow, rowPlaces}
 use Rattle.table.proofs.FlagLaws.{by-order}
 use Rattle.table.proofs.JoinLaws.{someBelow-first, someBelow-next, joinLists-first, joinLists-next}
-use Rattle.table.specs.declared.Reply.{Reply}
 use Rattle.solve.specs.Copies.{pasted}
 use Rattle.solve.specs.Reports.{tallyOf}
 use Rattle.solve.specs.Solving.{told}

@@ -3,7 +3,7 @@ use mathlib.Core.Bool.{Bool, true, false, true≢false}
 use mathlib.Core.List.{List}
 use mathlib.Core.Path.{_≡_, refl, sym, ap, _∙_}
 use Prim.Native.Nat.{ℕ}
-use Rattle.table.specs.Answer.{Verdict, Within}
+use Rattle.table.specs.Answer.{Verdict}
 use Rattle.table.specs.Join.{joinVerdicts}
 use Rattle.table.specs.Refusals.{notWellFormed}
 use Rattle.table.specs.Tasks.{WorksFor, WellFormed, formed}

@@ -4,11 +4,10 @@ use mathlib.Core.List.{List}
 use mathlib.Core.Path.{_≡_, refl}
 use Prim.Native.Nat.{ℕ, _+_, _<_, _≤_, zero-le}
 use borrow.Author.Tests.{le-leb, lt-leb, lt-ltb, le-ltb, leb-true, leb-false, ltb-true, ltb-false}
-use native.Mathlib.Omega.{arith}
 use lib.Dec.{leb, ltb}
 use lib.ListN.{length}
 use Rattle.table.specs.Refusals.{firstOf, noEnd, unknownKind}
-use Rattle.taskfile.specs.Format.{isKind, bodyLength}
+use Rattle.taskfile.specs.Format.{isKind}
 use Rattle.taskfile.specs.Reading.{kindAt, nextAt}
 use Rattle.taskfile.specs.Records.{recordFault, recordAt, refusedRecord, wholeRecord}
 use Rattle.taskfile.specs.declared.record.Record.{Record}

@@ -7,7 +7,6 @@ use lib.ListN.{getD}
 use Rattle.facts.specs.Sets.{has}
 use Rattle.table.specs.Lists.{gather, piece}
 use Rattle.table.specs.declared.Task.{Task}
-use Rattle.table.specs.declared.Table.{Table}
 use Rattle.table.specs.declared.Run.{Run}
 
 -- The kinds of record, and the bytes of each kind's body:

@@ -1,6 +1,6 @@
 -- What the record reader gives at any place: document 01, "The task file": "Asked at any place, it gives the kind, the
 -- body and the next place, or 1 or 2 at that place (1 also where the place is at or past the end)".
-use mathlib.Core.Bool.{Bool, cond, not}
+use mathlib.Core.Bool.{cond, not}
 use mathlib.Core.List.{List, [], _∷_}
 use Prim.Native.Nat.{ℕ, _+_}
 use lib.Dec.{eqb, leb, ltb}

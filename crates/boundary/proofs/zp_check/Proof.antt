@@ -1,7 +1,7 @@
 -- `zp_check`: the room first, then what the run check gives.
 use native.Mathlib.Omega.{arith}
 use Rattle.boundary.proofs.AnsweringLaws.{answers-short, answers-given}
-use mathlib.Core.Path.{refl, ap, _∙_}
+use mathlib.Core.Path.{ap, _∙_}
 use Rattle.runcheck.specs.OpenNeeds.{checked}
 use Rattle.boundary.specs.Answers.{checkedWords}
 use Rattle.boundary.specs.Calls.{ChecksRun}

@@ -1,7 +1,7 @@
 -- `zp_record`: the room first, then what the record reader gives.
 use native.Mathlib.Omega.{arith}
 use Rattle.boundary.proofs.AnsweringLaws.{answers-short, answers-given}
-use mathlib.Core.Path.{refl, ap}
+use mathlib.Core.Path.{ap}
 use Rattle.boundary.specs.Answers.{recordWords}
 use Rattle.boundary.specs.Calls.{HandsRecord}
 use borrow.Author.Needs.{needs}

@@ -1,6 +1,5 @@
 -- `solve::report::tally_rows` meets its contract: before turn f the rows below f are tallied. Assumes nothing.
 use Prim.Native.Nat.{_-_}
-use borrow.Author.Needs.{needs}
 use native.Mathlib.Omega.{arith}
 use Rattle.solve.specs.Tables.{rowAt}
 use Rattle.solve.proofs.ReportLaws.{repairs-low, Tallied, tallied-none, tallied-more, tallied-end}

@@ -1,6 +1,5 @@
 -- `solve::report::write_lists` meets its contract: before turn f the lists of the rows below f are in the room. Assumes nothing.
 use Prim.Native.Nat.{_+_, _-_, _≤_}
-use borrow.Author.Needs.{needs}
 use native.Mathlib.Omega.{arith}
 use lib.ListN.{length}
 use Rattle.solve.specs.Tables.{rowAt, repairsIn}

@@ -1,17 +1,15 @@
 -- `taskfile::fault::fault_at` meets its contract: each test is the definition's next check. Assumes nothing.
-use mathlib.Core.Bool.{true, false}
 use mathlib.Core.List.{List}
 use mathlib.Core.Path.{_≡_, sym, ap, _∙_}
-use Prim.Native.Nat.{ℕ, _+_}
+use Prim.Native.Nat.{ℕ}
 use borrow.Author.Needs.{needs}
 use borrow.Author.Tests.{le-leb, lt-leb, lt-ltb, le-ltb}
 use native.Mathlib.Omega.{arith}
 use denote.Ref.{now}
-use lib.Dec.{ltb}
 use lib.ListN.{length}
 use Rattle.table.specs.Refusals.{Check, Refusal, firstOf}
 use Rattle.taskfile.specs.Format.{isKind, bodyLength}
-use Rattle.taskfile.specs.Reading.{kindAt, nextAt, misplaced, faultsAt, faultAt}
+use Rattle.taskfile.specs.Reading.{kindAt, nextAt, misplaced, faultsAt}
 use Rattle.taskfile.specs.Records.{seenOf, bodyFaults}
 use Rattle.taskfile.proofs.ReaderLaws.{Past}
 use Rattle.taskfile.proofs.fault.fault_at.Statement.{statement}

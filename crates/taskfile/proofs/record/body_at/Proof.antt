@@ -1,11 +1,10 @@
 -- `taskfile::record::body_at` meets its contract: the record's body lies within the file. Assumes nothing.
-use mathlib.Core.Path.{_≡_, sym, ap, _∙_}
+use mathlib.Core.Path.{_≡_}
 use Prim.Native.Nat.{_-_}
 use borrow.Author.Needs.{needs}
 use native.Mathlib.Omega.{arith}
-use lib.ListN.{take, drop}
 use denote.Ref.{now}
-use Rattle.taskfile.specs.Records.{bodyOf, recordAt}
+use Rattle.taskfile.specs.Records.{bodyOf}
 use Rattle.taskfile.proofs.RecordLaws.{Placed, placed}
 use Rattle.taskfile.proofs.record.body_at.Statement.{statement}
 use Rattle.taskfile.proofs.record.body_at.Tie as tie
