@@ -1,43 +1,28 @@
--- The invariant of the loops that place the words of an array one after another, and what is then given.
+-- The words of an array placed one after another, as the loop law of `room` has it, and what is then given.
 use mathlib.Core.List.{List, [], _∷_}
-use mathlib.Core.Path.{_≡_, refl}
-use Prim.Native.Nat.{ℕ, _+_, _≤_, _<_}
-use native.Mathlib.Numerals.{add-one}
+use mathlib.Core.Path.{_≡_, refl, sym, ap, _∙_, subst}
+use Prim.Native.Nat.{ℕ, _+_, _≤_}
 use native.Mathlib.Omega.{arith}
-use lib.ListN.{length, getD, take}
-use lib.Seq.{take-suc, take-all, length-take-le}
-use Rattle.room.specs.Placing.{Placed}
+use lib.ListN.{length, getD}
 use Rattle.boundary.specs.Answers.{Given}
-use Rattle.room.proofs.PlacingLaws.{placed-none, placed-more, placed-length}
+use Rattle.room.proofs.Gathering.{Gathering, begun, all-placed, gather-itself}
+use Rattle.room.specs.Placing.{lastPlace, Placed}
+use Rattle.table.specs.Lists.{gather}
 
--- The first i of the n words have been placed from `at` on.
-pub record Putting (words : List ℕ) (n : ℕ) (before room : List ℕ) (at next i : ℕ) : Type 0 where
-  pub inside : i ≤ n
-  pub whole : length words ≡ n
-  pub so-far : Placed before room at next (take i words)
+-- Each word of the array is a piece.
+abbrev pub wordOf : List ℕ → ℕ → List ℕ
+wordOf words i = getD words i 0 ∷ []
 
-pub putting-none : (words : List ℕ) (n : ℕ) (room : List ℕ) (at : ℕ) → length words ≡ n → Putting words n room room at at 0
-putting-none words n room at e = record { inside = omega arith; whole = e; so-far = placed-none room at }
+module _ (words : List ℕ) (n : ℕ) (whole : length words ≡ n) where
+  all-words : gather (wordOf words) n ≡ words
+  all-words = ap (λ k. gather (wordOf words) k) (sym whole) ∙ gather-itself words
 
-module _ {words : List ℕ} {n : ℕ} {before room : List ℕ} {at next i : ℕ} (g : Putting words n before room at next i) where
-  pub putting-at : next ≡ at + i
-  putting-at = omega (arith, g .so-far .next-is, length-take-le i words (omega (arith, g .inside, g .whole)))
+  pub words-begun : (room : List ℕ) (at : ℕ) → at + n ≤ lastPlace → Gathering (wordOf words) n room room at at 0
+  words-begun room at h = begun (wordOf words) n room at (omega (arith, ap length all-words, whole))
 
-  pub putting-more : {room′ : List ℕ} {next′ : ℕ} → i < n → Placed room room′ next next′ (getD words i 0 ∷ [])
-      → Putting words n before room′ at next′ (i + 1)
-  putting-more h q = record {
-    inside = omega arith;
-    whole = g .whole;
-    so-far =
-        let below : i < length words = omega (arith, g .whole) in
-        rw (add-one, take-suc words i 0 below) (placed-more (g .so-far) q);
-  }
-
-  pub putting-all : n ≤ i → Placed before room at next words
-  putting-all h = let all : length words ≤ i = omega (arith, g .whole) in rw take-all at (g .so-far)
-
-  pub putting-length : length room ≡ length before
-  putting-length = placed-length (g .so-far)
+  pub words-placed : {before room : List ℕ} {at next i : ℕ} → Gathering (wordOf words) n before room at next i → n ≤ i
+      → Placed before room at next words
+  words-placed {before} {room} {at} {next} g h = subst (Placed before room at next) all-words (all-placed g h)
 
 -- The words of an answer placed from the first word on, with the number returned.
 pub given-words : {n : ℕ} {words before after : List ℕ} {next : ℕ} → length words ≡ n → Placed before after 0 next words

@@ -12,7 +12,7 @@ ghost use mathlib.Core.List.{[], _∷_};
 ghost use mathlib.Core.Path.{_≡_};
 ghost use Prim.Native.Nat.{_+_, _<_, _≤_};
 ghost use Rattle.table.specs.Sizes.{maxActions, maxSteps};
-ghost use Rattle.room.specs.Placing.{Placed};
+ghost use Rattle.room.specs.Placing.{lastPlace, Placed};
 ghost use Rattle.boundary.specs.Words.{tableOut, runOut, tableWords, runWords};
 ghost use Rattle.boundary.specs.Answers.{answerMost, replyLength, checkedLength, recordLength, Given, checkedWords, recordWords, replyWords, taskAnswer};
 
@@ -26,7 +26,7 @@ pub const RECORD_WORDS: usize = 6;
 pub const TASK_ANSWER_WORDS: usize = crate::words::TASK_WORDS + 2;
 
 fn put(answer: &mut [u64], at: usize, word: u64) -> usize
-    requires { ⌜ at < answerMost ⌝ }
+    requires { ⌜ at < lastPlace ⌝ }
     ensures { λ r. ⌜ Placed (now (answer .entry)) (now (answer .exit)) at r (word ∷ []) ⌝ }
 {
     if at < answer.len() {
@@ -37,7 +37,7 @@ fn put(answer: &mut [u64], at: usize, word: u64) -> usize
 }
 
 fn put_two(answer: &mut [u64], at: usize, x: u64, y: u64) -> usize
-    requires { ⌜ at + 2 ≤ answerMost ⌝ }
+    requires { ⌜ at + 2 ≤ lastPlace ⌝ }
     ensures { λ r. ⌜ Placed (now (answer .entry)) (now (answer .exit)) at r (x ∷ y ∷ []) ⌝ }
 {
     let next = put(answer, at, x);
@@ -45,7 +45,7 @@ fn put_two(answer: &mut [u64], at: usize, x: u64, y: u64) -> usize
 }
 
 fn put_three(answer: &mut [u64], at: usize, x: u64, y: u64, z: u64) -> usize
-    requires { ⌜ at + 3 ≤ answerMost ⌝ }
+    requires { ⌜ at + 3 ≤ lastPlace ⌝ }
     ensures { λ r. ⌜ Placed (now (answer .entry)) (now (answer .exit)) at r (x ∷ y ∷ z ∷ []) ⌝ }
 {
     let next = put_two(answer, at, x, y);
@@ -53,7 +53,7 @@ fn put_three(answer: &mut [u64], at: usize, x: u64, y: u64, z: u64) -> usize
 }
 
 fn put_masks(answer: &mut [u64], at: usize, masks: [u64; ACTIONS]) -> usize
-    requires { ⌜ at + maxActions ≤ answerMost ⌝ }
+    requires { ⌜ at + maxActions ≤ lastPlace ⌝ }
     ensures { λ r. ⌜ Placed (now (answer .entry)) (now (answer .exit)) at r masks ⌝ }
 {
     let mut next = at;
@@ -70,7 +70,7 @@ fn wide(step: u8) -> u64
 }
 
 fn put_steps(answer: &mut [u64], at: usize, steps: [u8; STEPS]) -> usize
-    requires { ⌜ at + maxSteps ≤ answerMost ⌝ }
+    requires { ⌜ at + maxSteps ≤ lastPlace ⌝ }
     ensures { λ r. ⌜ Placed (now (answer .entry)) (now (answer .exit)) at r steps ⌝ }
 {
     let mut next = at;
@@ -81,7 +81,7 @@ fn put_steps(answer: &mut [u64], at: usize, steps: [u8; STEPS]) -> usize
 }
 
 fn put_table(answer: &mut [u64], at: usize, t: Table) -> usize
-    requires { ⌜ at + tableWords ≤ answerMost ⌝ }
+    requires { ⌜ at + tableWords ≤ lastPlace ⌝ }
     ensures { λ r. ⌜ Placed (now (answer .entry)) (now (answer .exit)) at r (tableOut t) ⌝ }
 {
     let needs = t.needs;
@@ -94,7 +94,7 @@ fn put_table(answer: &mut [u64], at: usize, t: Table) -> usize
 }
 
 fn put_run(answer: &mut [u64], at: usize, run: Run) -> usize
-    requires { ⌜ at + runWords ≤ answerMost ⌝ }
+    requires { ⌜ at + runWords ≤ lastPlace ⌝ }
     ensures { λ r. ⌜ Placed (now (answer .entry)) (now (answer .exit)) at r (runOut run) ⌝ }
 {
     let steps = run.steps;

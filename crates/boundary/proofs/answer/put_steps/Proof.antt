@@ -3,18 +3,19 @@ use borrow.Author.Needs.{needs}
 use native.Mathlib.Omega.{arith}
 use Prim.Native.Nat.{_-_}
 use Rattle.table.specs.Sizes.{maxSteps}
-use Rattle.boundary.proofs.PuttingLaws.{Putting, putting-none, putting-at, putting-more, putting-all, putting-length}
+use Rattle.room.proofs.Gathering.{Gathering, next-fits, one-more, length-kept}
+use Rattle.boundary.proofs.PuttingLaws.{wordOf, words-begun, words-placed}
 use Rattle.boundary.proofs.answer.put_steps.Statement.{statement}
 use Rattle.boundary.proofs.answer.put_steps.Tie as tie
 
 abbrev Inv-loop : tie.InvT-loop
-Inv-loop answer₀ at steps next₀ i₀ answer next i = Putting steps maxSteps answer₀ answer at next i
+Inv-loop answer₀ at steps next₀ i₀ answer next i = Gathering (wordOf steps) maxSteps answer₀ answer at next i
 
 abbrev μ-loop : tie.MeasureT-loop
 μ-loop answer₀ at steps next₀ i₀ answer next i = maxSteps - i
 
 loop-holds : tie.Need-loop-holds Inv-loop μ-loop
-loop-holds c = putting-none _ _ _ _ (search needs)
+loop-holds c = words-begun (c .before .args .t3) maxSteps (search needs) _ _ (search needs)
 
 array-read-wide : tie.Need-array-read-wide Inv-loop μ-loop
 array-read-wide c = search needs
@@ -23,7 +24,7 @@ wide-requires : tie.Need-wide-requires Inv-loop μ-loop
 wide-requires c κs = search needs
 
 put-requires : tie.Need-put-requires Inv-loop μ-loop
-put-requires c κs = omega (arith, putting-at (c .before .before .before .loop .inv))
+put-requires c κs = omega (arith, next-fits (c .before .before .before .loop .inv) (search needs))
 
 add-i : tie.Need-add-i Inv-loop μ-loop
 add-i c = omega arith
@@ -34,14 +35,14 @@ loop-less c = omega arith
 loop-again : tie.Need-loop-again Inv-loop μ-loop
 loop-again c =
     let z = c .before .before .before .before .before in
-    putting-more (z .before .loop .inv) (z .loop-test .taken)
+    one-more (z .before .loop .inv) (z .loop-test .taken)
     (rw (c .before .before .before .wide .ensures) at (c .before .before .put .ensures))
 
 same-length : tie.Need-same-length Inv-loop μ-loop
-same-length c = putting-length (c .before .loop .inv)
+same-length c = length-kept (c .before .loop .inv)
 
 returns : tie.Need-returns Inv-loop μ-loop
-returns c = putting-all (c .before .loop .inv) (c .loop-test .left)
+returns c = words-placed _ _ (search needs) (c .before .loop .inv) (c .loop-test .left)
 
 pub put-steps-spec : {M : Type 1} → statement M
 put-steps-spec =
