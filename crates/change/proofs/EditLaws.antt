@@ -14,7 +14,8 @@ use Rattle.table.specs.Repairs.{dropDelete, addEffect, dropNeed}
 use Rattle.table.specs.Sizes.{kinds}
 use Rattle.table.specs.Tasks.{cellsOf, courseOf, maskOf, KeepsFor, Shaped, WellFormed}
 use Rattle.table.specs.declared.Task.{Task}
-use Rattle.change.specs.Editing.{setFact, cellSet, edited, cellFact, cellInside}
+use Rattle.change.specs.Editing.{cellSet, edited, cellFact, cellInside}
+use Rattle.table.specs.Setting.{setFact}
 use Rattle.change.specs.Kinds.{kindSet, cellValue}
 use Rattle.change.specs.declared.Cell.{Cell}
 use Rattle.change.specs.declared.Cell.the-variants.{Need, Add, Delete, Start, Goal}

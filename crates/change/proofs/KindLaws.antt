@@ -16,7 +16,7 @@ use Rattle.table.specs.Sizes.{maxActions, kinds}
 use Rattle.table.specs.Tasks.{cellsOf, maskOf, Shaped}
 use Rattle.table.specs.declared.Table.{Table}
 use Rattle.table.specs.declared.Task.{Task}
-use Rattle.change.specs.Editing.{setFact, setCell}
+use Rattle.table.specs.Setting.{setFact, setCell}
 use Rattle.change.specs.Kinds.{kindSet, numberSet, oneByOne}
 
 -- ---- the three kinds alike
@@ -53,7 +53,6 @@ long-shaped u t long s = record {
 -- ---- one fact of a set, one set of a row, one row of a table
 
 pub has-setFact : (m f : ℕ) (p : Bool) (g : ℕ) → f < width → has (setFact m f p) g ≡ cond (eqb g f) p (has m g)
-unfolding setFact
 has-setFact m f true g h = has-with m f g h ∙ put (has m g) (eqb g f)
   where
     put : (b e : Bool) → (b || e) ≡ cond e true b

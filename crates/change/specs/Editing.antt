@@ -1,25 +1,16 @@
 -- Editing one cell: document 01, "The session table": "An edit names a kind of cell with its action and fact, or a start
 -- or goal fact, and sets it to present or absent."
-use mathlib.Core.Bool.{Bool, cond, _&&_}
+use mathlib.Core.Bool.{Bool, _&&_}
 use mathlib.Core.List.{List}
 use Prim.Native.Nat.{ℕ}
 use lib.Dec.{ltb}
-use lib.ListN.{getD, set}
-use Rattle.facts.specs.Sets.{joined, removed, only}
+use Rattle.table.specs.Setting.{setFact, setCell}
 use Rattle.table.specs.declared.Task.{Task}
 use Rattle.table.specs.declared.Table.{Table}
 use Rattle.table.specs.declared.Run.{Run}
 use Rattle.change.specs.declared.Cell.{Cell}
 use Rattle.change.specs.declared.Cell.the-variants.{Need, Add, Delete, Start, Goal}
 use Rattle.change.specs.declared.Edit.{Edit}
-
--- The set with fact f set to present or absent.
-unfoldable pub setFact : ℕ → ℕ → Bool → ℕ
-setFact m f present = cond present (joined m (only f)) (removed m (only f))
-
--- The same in the set of action a of a row of sets.
-abbrev pub setCell : List ℕ → ℕ → ℕ → Bool → List ℕ
-setCell sets a f present = set sets a (setFact (getD sets a 0) f present)
 
 abbrev pub withNeeds : Table → List ℕ → Table
 withNeeds t sets = record { facts = t .facts; actions = t .actions; limit = t .limit; needs = sets; adds = t .adds; deletes = t .deletes }

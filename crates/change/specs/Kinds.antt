@@ -11,7 +11,8 @@ use Rattle.table.specs.declared.Table.{Table}
 use Rattle.table.specs.declared.Task.{Task}
 use Rattle.change.specs.declared.Cell.{Cell}
 use Rattle.change.specs.declared.Cell.the-variants.{Need, Add, Delete, Start, Goal}
-use Rattle.change.specs.Editing.{setCell, withNeeds, withAdds, withDeletes}
+use Rattle.change.specs.Editing.{withNeeds, withAdds, withDeletes}
+use Rattle.table.specs.Setting.{setCell}
 
 -- The table with fact f of action a set to present or absent, in the deletes, adds or needs by the kind of repair that concerns them.
 unfoldable pub kindSet : Table → ℕ → ℕ → ℕ → Bool → Table

@@ -4,6 +4,7 @@ use crate::Edit;
 use crate::cells;
 use table::Run;
 use table::Task;
+use table::cells::set_fact;
 use table::repair::Repair;
 ghost use mathlib.Core.Path.{_≡_};
 ghost use Rattle.change.specs.Editing.{edited, cellFact, cellInside};
@@ -60,12 +61,12 @@ pub fn set_cell(t: Task, e: Edit) -> Task
             Task { table, run }
         }
         Cell::Start { fact } => {
-            let start = cells::set_fact(run.start, fact, present);
+            let start = set_fact(run.start, fact, present);
             let run = Run { start, ..run };
             Task { table: before, run }
         }
         Cell::Goal { fact } => {
-            let goal = cells::set_fact(run.goal, fact, present);
+            let goal = set_fact(run.goal, fact, present);
             let run = Run { goal, ..run };
             Task { table: before, run }
         }

@@ -10,5 +10,6 @@ pub mod Order
 pub mod Repairs
 pub mod Answer
 pub mod Join
+pub mod Setting
 pub mod Tasks
 pub mod Bench

@@ -1,5 +1,6 @@
 // The action table, the run and the task by value (document 01, "Sizes" and "The model and its run"); the meaning of
 // them is in specs/.
+pub mod cells;
 pub mod formed;
 pub mod refusals;
 pub mod repair;

@@ -11,12 +11,13 @@ use borrow.Author.Tests.{eqb-true, eqb-false, ne-eqb}
 use Rattle.facts.specs.Sets.{width, has, joined, only}
 use Rattle.facts.proofs.Laws.{has-joined, has-only}
 use Rattle.table.proofs.FlagLaws.{both}
+use Rattle.table.specs.Setting.{setCell}
 use Rattle.table.specs.Repairs.{byKind, dropDelete, addEffect}
 use Rattle.table.specs.Sizes.{maxActions, maxSteps}
 use Rattle.table.specs.Tasks.{maskOf, Shaped, WellFormed}
 use Rattle.table.specs.declared.Task.{Task}
 use Rattle.taskfile.specs.Format.{sizesKind, startKind, goalKind, needKind, addKind, deleteKind, stepKind}
-use Rattle.taskfile.specs.Reading.{withCell, tableAfter, runAfter}
+use Rattle.taskfile.specs.Reading.{tableAfter, runAfter}
 use Rattle.table.proofs.Formation.{byKind-all}
 use Rattle.taskfile.proofs.Fitting.{Told}
 
@@ -59,16 +60,16 @@ module _ (t : Task) (k x y z : ℕ) where
   mask-after shaped h j a = at (eqb j dropDelete) (eqb j addEffect)
     where
       cell : (kind : ℕ) (l : List ℕ) → needKind ≤ kind → length l ≡ maxActions
-          → getD (cond (eqb k kind) (withCell l x y) l) a 0 ≡
+          → getD (cond (eqb k kind) (setCell l x y true) l) a 0 ≡
           cond (eqb k kind && eqb a x) (joined (getD l a 0) (only y)) (getD l a 0)
       cell kind l low e =
           get-set (eqb k kind) l x a (λ (i : ℕ). joined (getD l i 0) (only y))
           (λ d. let same = eqb-true k kind d in let less = h (omega arith) in omega arith)
 
       at : (b c : Bool) →
-          cond b (getD (cond (eqb k deleteKind) (withCell (t .table .deletes) x y) (t .table .deletes)) a 0)
-          (cond c (getD (cond (eqb k addKind) (withCell (t .table .adds) x y) (t .table .adds)) a 0)
-          (getD (cond (eqb k needKind) (withCell (t .table .needs) x y) (t .table .needs)) a 0)) ≡
+          cond b (getD (cond (eqb k deleteKind) (setCell (t .table .deletes) x y true) (t .table .deletes)) a 0)
+          (cond c (getD (cond (eqb k addKind) (setCell (t .table .adds) x y true) (t .table .adds)) a 0)
+          (getD (cond (eqb k needKind) (setCell (t .table .needs) x y true) (t .table .needs)) a 0)) ≡
           cond (eqb k (cond b deleteKind (cond c addKind needKind)) && eqb a x)
           (joined (cond b (getD (t .table .deletes) a 0) (cond c (getD (t .table .adds) a 0) (getD (t .table .needs) a 0))) (only y))
           (cond b (getD (t .table .deletes) a 0) (cond c (getD (t .table .adds) a 0) (getD (t .table .needs) a 0)))

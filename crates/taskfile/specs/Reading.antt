@@ -1,6 +1,6 @@
 -- What reading a file gives, for every byte string: document 01, "The task file" and "Refusal numbers".
 -- "Order in a file: the first faulty record; within it 1 (no kind byte), 2, 3, 1 (short body), 4, 5, 6, 7; 8 after a good end."
-use mathlib.Core.Bool.{Bool, cond, not, _||_, _&&_}
+use mathlib.Core.Bool.{Bool, true, cond, not, _||_, _&&_}
 use mathlib.Core.List.{List, [], _∷_}
 use mathlib.Core.Path.{_≡_}
 use Prim.Native.Nat.{ℕ, _+_, _*_, _<_}
@@ -8,6 +8,7 @@ use lib.Dec.{eqb, leb, ltb}
 use lib.ListN.{length, getD, set, replicate}
 use Rattle.facts.specs.Sets.{joined, only}
 use Rattle.table.specs.Refusals.{Check, Refusal, refuseAt, firstOf, accepted, noEnd, unknownKind, sizesMisplaced, sizeOutside, numberOutside, notAscending, tooManySteps, bytesAfterEnd}
+use Rattle.table.specs.Setting.{setCell}
 use Rattle.table.specs.Sizes.{maxFacts, maxActions, maxSteps, maxLimit}
 use Rattle.table.specs.declared.Task.{Task}
 use Rattle.table.specs.declared.Table.{Table}
@@ -81,19 +82,15 @@ faultsAt s at seen =
     kind : ℕ
     kind = kindAt s at
 
--- One set of a row of sets, with one fact more.
-abbrev pub withCell : List ℕ → ℕ → ℕ → List ℕ
-withCell sets a f = set sets a (joined (getD sets a 0) (only f))
-
 -- The task with one record more, of this kind and these bytes.
 unfoldable pub tableAfter : Table → ℕ → ℕ → ℕ → ℕ → Table
 tableAfter t kind x y z = record {
   facts = cond (eqb kind sizesKind) x (t .facts);
   actions = cond (eqb kind sizesKind) y (t .actions);
   limit = cond (eqb kind sizesKind) z (t .limit);
-  needs = cond (eqb kind needKind) (withCell (t .needs) x y) (t .needs);
-  adds = cond (eqb kind addKind) (withCell (t .adds) x y) (t .adds);
-  deletes = cond (eqb kind deleteKind) (withCell (t .deletes) x y) (t .deletes);
+  needs = cond (eqb kind needKind) (setCell (t .needs) x y true) (t .needs);
+  adds = cond (eqb kind addKind) (setCell (t .adds) x y true) (t .adds);
+  deletes = cond (eqb kind deleteKind) (setCell (t .deletes) x y true) (t .deletes);
 }
 
 unfoldable pub runAfter : Run → ℕ → ℕ → Run

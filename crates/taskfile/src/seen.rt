@@ -1,16 +1,16 @@
 // What the records so far have said, and what one good record more makes of it (document 01, "The task file").
 use crate::kinds;
 use crate::parts;
-use table::ACTIONS;
 use table::Run;
 use table::Table;
 use table::Task;
+use table::cells::set_in;
 ghost use mathlib.Core.Path.{_≡_};
 ghost use Prim.Native.Nat.{_<_};
 ghost use Rattle.table.specs.Sizes.{maxSteps};
 ghost use Rattle.table.specs.Refusals.{accepted};
 ghost use Rattle.taskfile.specs.Format.{stepKind};
-ghost use Rattle.taskfile.specs.Reading.{nothingSeen, withCell, tableAfter, runAfter, seenAfter, faultAt};
+ghost use Rattle.taskfile.specs.Reading.{nothingSeen, tableAfter, runAfter, seenAfter, faultAt};
 ghost use Rattle.taskfile.specs.Records.{seenOf};
 
 // The task so far, and the last record's kind and body.
@@ -31,17 +31,7 @@ pub fn nothing_seen() -> Seen
     }
 }
 
-// The sets with fact f in action a's; as they are where there is no such action.
-fn with_cell(sets: [u64; ACTIONS], a: usize, f: usize) -> [u64; ACTIONS]
-    ensures { λ r. ⌜ r ≡ withCell sets a f ⌝ }
-{
-    let mut sets = sets;
-    if a < ACTIONS {
-        sets[a] = facts::with_fact(sets[a], f);
-    }
-    sets
-}
-
+// The table with one record more.
 fn table_after(table: Table, kind: usize, x: usize, y: usize, z: usize) -> Table
     ensures { λ r. ⌜ r ≡ tableAfter table kind x y z ⌝ }
 {
@@ -54,19 +44,19 @@ fn table_after(table: Table, kind: usize, x: usize, y: usize, z: usize) -> Table
     }
     if kind == kinds::NEED {
         let sets = table.needs;
-        let sets = with_cell(sets, x, y);
+        let sets = set_in(sets, x, y, true);
         table.needs = sets;
         return table;
     }
     if kind == kinds::ADD {
         let sets = table.adds;
-        let sets = with_cell(sets, x, y);
+        let sets = set_in(sets, x, y, true);
         table.adds = sets;
         return table;
     }
     if kind == kinds::DELETE {
         let sets = table.deletes;
-        let sets = with_cell(sets, x, y);
+        let sets = set_in(sets, x, y, true);
         table.deletes = sets;
     }
     table

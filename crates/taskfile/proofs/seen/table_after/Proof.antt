@@ -9,26 +9,26 @@ returns : tie.Need-returns
 unfolding tableAfter
 returns c = rw (c .if1 .taken)
 
-with-cell-requires : tie.Need-with-cell-requires
-with-cell-requires c κs = search needs
+set-in-requires : tie.Need-set-in-requires
+set-in-requires c κs = search needs
 
 returns-2 : tie.Need-returns-2
 unfolding tableAfter
-returns-2 c = rw (c .before .before .if2 .taken, c .with-cell .ensures)
+returns-2 c = rw (c .before .before .if2 .taken, c .set-in .ensures)
 
-with-cell-requires-2 : tie.Need-with-cell-requires-2
-with-cell-requires-2 c κs = search needs
+set-in-requires-2 : tie.Need-set-in-requires-2
+set-in-requires-2 c κs = search needs
 
 returns-3 : tie.Need-returns-3
 unfolding tableAfter
-returns-3 c = rw (c .before .before .if3 .taken, c .with-cell2 .ensures)
+returns-3 c = rw (c .before .before .if3 .taken, c .set-in2 .ensures)
 
-with-cell-requires-3 : tie.Need-with-cell-requires-3
-with-cell-requires-3 c κs = search needs
+set-in-requires-3 : tie.Need-set-in-requires-3
+set-in-requires-3 c κs = search needs
 
 returns-4 : tie.Need-returns-4
 unfolding tableAfter
-returns-4 c = rw (c .before .before .if4 .taken, c .with-cell3 .ensures)
+returns-4 c = rw (c .before .before .if4 .taken, c .set-in3 .ensures)
 
 returns-5 : tie.Need-returns-5
 unfolding tableAfter
@@ -40,10 +40,10 @@ table-after-spec =
     tie.close
     (tie.spec
     returns
-    with-cell-requires
+    set-in-requires
     returns-2
-    with-cell-requires-2
+    set-in-requires-2
     returns-3
-    with-cell-requires-3
+    set-in-requires-3
     returns-4
     returns-5)

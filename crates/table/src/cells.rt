@@ -1,0 +1,27 @@
+// One cell of the table made present or absent, in a set and in the set of one action: what reading a file, applying a list
+// and editing have in common.
+use crate::ACTIONS;
+ghost use mathlib.Core.Path.{_≡_};
+ghost use Rattle.table.specs.Setting.{setFact, setCell};
+
+// The set with one fact present or absent; a fact that a mask has no room for changes nothing.
+pub fn set_fact(m: u64, fact: usize, present: bool) -> u64
+    ensures { λ r. ⌜ r ≡ setFact m fact present ⌝ }
+{
+    if present {
+        facts::with_fact(m, fact)
+    } else {
+        facts::without_fact(m, fact)
+    }
+}
+
+// The same in the set of one action; an action that is none changes nothing.
+pub fn set_in(sets: [u64; ACTIONS], action: usize, fact: usize, present: bool) -> [u64; ACTIONS]
+    ensures { λ r. ⌜ r ≡ setCell sets action fact present ⌝ }
+{
+    let mut sets = sets;
+    if action < ACTIONS {
+        sets[action] = set_fact(sets[action], fact, present);
+    }
+    sets
+}
