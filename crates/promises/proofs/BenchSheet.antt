@@ -15,7 +15,7 @@ use Rattle.listing.proofs.Determined.{listing-unique}
 use Rattle.listing.specs.Ascii.{bytesOf}
 use Rattle.listing.specs.Listing.{ListsInto, answerRoom}
 use Rattle.listing.specs.Text.{textOf, readText, line, each, digits}
-use Rattle.runcheck.specs.OpenNeeds.{checked, openReport, totalOpen, firstOpen, lowestOpen, openAt, isOpen}
+use Rattle.runcheck.specs.OpenNeeds.{openNeeds, checked, openReport, totalOpen, firstOpen, lowestOpen, openAt, isOpen}
 use Rattle.runcheck.specs.declared.Checked.{Checked}
 use Rattle.session.proofs.CallLaws.{edit-clear}
 use Rattle.session.proofs.Demand3.{demand-3}
@@ -43,7 +43,7 @@ use Rattle.taskfile.specs.Reading.{ReadsFile, refusedRead, acceptedRead, noTask
 use Rattle.taskfile.specs.declared.TaskRead.{TaskRead}
 use Rattle.promises.proofs.CertificateLaws.{certified-well, certified-only}
 use Rattle.promises.specs.Certificates.{isRight, isRightWith, mends, certifies, certified, ofFact, partsOf}
-use Rattle.promises.specs.Sheet.{reads, lists, checks, solves, edits, Holds, AllHold, all, _and_, openNeeds, deleteAbsent, untouched, listingText, refusedText, sheet, figures}
+use Rattle.promises.specs.Sheet.{reads, lists, checks, solves, edits, Holds, AllHold, all, _and_, deleteAbsent, untouched, listingText, refusedText, sheet, figures}
 
 -- ---- what is enough for a row of each kind
 

@@ -16,7 +16,7 @@ use Rattle.change.specs.Editing.{cellInside}
 use Rattle.change.specs.declared.Applied.{Applied}
 use Rattle.change.specs.declared.Edit.{Edit}
 use Rattle.listing.specs.Listing.{ListsInto}
-use Rattle.runcheck.specs.OpenNeeds.{checked}
+use Rattle.runcheck.specs.OpenNeeds.{refusedCheck, checked}
 use Rattle.session.proofs.CallLaws.{open-malformed, open-not-a-session, edit-malformed, edit-not-a-session, edit-outside, opens-refused, edits-refused, opens-unique, edits-unique, listed-malformed, listed-not-a-session}
 use Rattle.session.proofs.Demand3.{demand-3, opening-accepts}
 use Rattle.session.specs.Calls.{Opens, Edits, listed, Story, madeBy, names}
@@ -56,7 +56,7 @@ Refused number = number ≡ accepted → ⊥
 -- What every call gives for a task that is not well formed: refusal 12 at 0, zeros or the task given, and what was lent as it was.
 pub record BadTask (t : Task) : Type 0 where
   pub write : (room : List ℕ) → written t room ≡ refused notWellFormed room
-  pub check : checked t ≡ record { number = notWellFormed; place = 0; total = 0; step = 0; fact = 0 }
+  pub check : checked t ≡ refusedCheck notWellFormed
   pub apply : (l : List ℕ) (r : Applied) → Applies t l r → r ≡ record { number = notWellFormed; place = 0; task = t }
   pub solve : (room : List ℕ) (o : Outcome) → Solves t room o → o ≡ refused notWellFormed room
   pub open-it : (s after : List ℕ) (r : Reply) → Opens t s r after → (r ≡ record { number = notWellFormed; place = 0; length = 0 }) × (after ≡ s)

@@ -11,7 +11,7 @@ use Rattle.change.specs.Applying.{firstWrong, Applies}
 use Rattle.change.specs.Kinds.{oneByOne}
 use Rattle.change.specs.declared.Applied.{Applied}
 use Rattle.listing.specs.Listing.{ListsInto}
-use Rattle.runcheck.specs.OpenNeeds.{checked}
+use Rattle.runcheck.specs.OpenNeeds.{refusedCheck, checked}
 use Rattle.session.specs.Calls.{listed}
 use Rattle.session.specs.Sessions.{inForm}
 use Rattle.solve.specs.Solving.{told, Solves}
@@ -96,7 +96,7 @@ write-keeps t room o e nonzero =
 
 -- ---- the run check
 
-pub check-malformed : (t : Task) → formed t ≡ false → checked t ≡ record { number = notWellFormed; place = 0; total = 0; step = 0; fact = 0 }
+pub check-malformed : (t : Task) → formed t ≡ false → checked t ≡ refusedCheck notWellFormed
 unfolding checked
 check-malformed t e = rw e
 

@@ -11,7 +11,7 @@ use Rattle.change.specs.declared.Edit.{Edit}
 use Rattle.listing.specs.Ascii.{bytesOf}
 use Rattle.listing.specs.Listing.{ListsInto}
 use Rattle.table.specs.Outcomes.{given}
-use Rattle.runcheck.specs.OpenNeeds.{checked}
+use Rattle.runcheck.specs.OpenNeeds.{openNeeds, refusedCheck, checked}
 use Rattle.runcheck.specs.declared.Checked.{Checked}
 use Rattle.session.specs.Calls.{Opens, Edits, listed}
 use Rattle.session.specs.declared.Edited.{Edited}
@@ -58,13 +58,6 @@ pub data AllHold : List BenchRow → Type 0 where
   _and_ : {row : BenchRow} {rows : List BenchRow} → Holds row → AllHold rows → AllHold (row ∷ rows)
 
 -- ---- what the rows give
-
--- Total open needs, first step, its lowest fact.
-abbrev pub openNeeds : ℕ → ℕ → ℕ → Checked
-openNeeds total step fact = record { number = accepted; place = 0; total = total; step = step; fact = fact }
-
-abbrev pub refusedCheck : ℕ → Checked
-refusedCheck n = record { number = n; place = 0; total = 0; step = 0; fact = 0 }
 
 -- Delete (1, 1) to absent.
 abbrev pub deleteAbsent : Edit

@@ -30,16 +30,18 @@ firstOpen c r = firstWhere (λ i. ltb 0 (openAt c r i)) (r .count + 1)
 unfoldable pub lowestOpen : Cells → Course → ℕ
 lowestOpen c r = firstWhere (isOpen c r (firstOpen c r)) (c .facts)
 
+-- What the check gives: the total, the first step and its lowest fact; or a refusal, which returns zeros.
+abbrev pub openNeeds : ℕ → ℕ → ℕ → Checked
+openNeeds total step fact = record { number = accepted; place = 0; total = total; step = step; fact = fact }
+
+abbrev pub refusedCheck : ℕ → Checked
+refusedCheck n = record { number = n; place = 0; total = 0; step = 0; fact = 0 }
+
 -- "With none, all three are 0."
 unfoldable pub openReport : Cells → Course → Checked
 openReport c r =
-    cond {A = Checked} (eqb (totalOpen c r) 0)
-    (record { number = accepted; place = 0; total = 0; step = 0; fact = 0 })
-    (record { number = accepted; place = 0; total = totalOpen c r; step = firstOpen c r + 1; fact = lowestOpen c r })
+    cond {A = Checked} (eqb (totalOpen c r) 0) (openNeeds 0 0 0) (openNeeds (totalOpen c r) (firstOpen c r + 1) (lowestOpen c r))
 
--- 12 for a task that is not well formed; "any other refused call returns zeros".
+-- 12 for a task that is not well formed.
 unfoldable pub checked : Task → Checked
-checked t =
-    cond {A = Checked} (formed t)
-    (openReport (cellsOf (t .table)) (courseOf (t .run)))
-    (record { number = notWellFormed; place = 0; total = 0; step = 0; fact = 0 })
+checked t = cond {A = Checked} (formed t) (openReport (cellsOf (t .table)) (courseOf (t .run))) (refusedCheck notWellFormed)

@@ -1,5 +1,5 @@
 -- The meaning: what a reader must believe, to be read against source document 001 (Definitions 1 to 3) and document 01.
--- Nothing here mentions rows, searches or code.
+-- Nothing here mentions rows or searches. Bench has the tasks of 01's bench sheet.
 pub mod Sizes
 pub mod Refusals
 pub mod Outcomes
