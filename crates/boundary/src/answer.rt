@@ -103,7 +103,7 @@ fn put_run(answer: &mut [u64], at: usize, run: Run) -> usize
 }
 
 // Each of these answers with the number again, for the caller to return.
-pub fn give_task(number: usize, place: usize, task: Task, answer: &mut [u64]) -> usize
+pub(crate) fn give_task(number: usize, place: usize, task: Task, answer: &mut [u64]) -> usize
     ensures { λ r. ⌜ Given answerMost (taskAnswer number place task) (now (answer .entry)) (now (answer .exit)) r ⌝ }
 {
     let table = task.table;
@@ -114,7 +114,7 @@ pub fn give_task(number: usize, place: usize, task: Task, answer: &mut [u64]) ->
     number
 }
 
-pub fn give_reply(reply: Reply, answer: &mut [u64]) -> usize
+pub(crate) fn give_reply(reply: Reply, answer: &mut [u64]) -> usize
     ensures { λ r. ⌜ Given replyLength (replyWords reply) (now (answer .entry)) (now (answer .exit)) r ⌝ }
 {
     let number = reply.number;
@@ -128,7 +128,7 @@ pub fn give_reply(reply: Reply, answer: &mut [u64]) -> usize
     number
 }
 
-pub fn give_checked(found: Checked, answer: &mut [u64]) -> usize
+pub(crate) fn give_checked(found: Checked, answer: &mut [u64]) -> usize
     ensures { λ r. ⌜ Given checkedLength (checkedWords found) (now (answer .entry)) (now (answer .exit)) r ⌝ }
 {
     let number = found.number;
@@ -143,7 +143,7 @@ pub fn give_checked(found: Checked, answer: &mut [u64]) -> usize
     number
 }
 
-pub fn give_record(found: Record, answer: &mut [u64]) -> usize
+pub(crate) fn give_record(found: Record, answer: &mut [u64]) -> usize
     ensures { λ r. ⌜ Given recordLength (recordWords found) (now (answer .entry)) (now (answer .exit)) r ⌝ }
 {
     let number = found.number;

@@ -101,7 +101,7 @@ fn run_in(words: &[u64]) -> Run
     }
 }
 
-pub fn task_in(words: &[u64]) -> Task
+pub(crate) fn task_in(words: &[u64]) -> Task
     ensures { λ r. ⌜ r ≡ taskIn (now (words .entry)) ⌝ }
 {
     if words.len() != TASK_WORDS {

@@ -123,7 +123,7 @@ module _ (t : Task) (w : WellFormed t) where
   cell-sets (Goal f) p h = setFact-sets (t .run .goal) f p (bounded f h)
 
   pub cell-elsewhere : (c : Cell) (p : Bool) → cellInside t c ≡ true → (g : ℕ) → (g ≡ cellFact c → ⊥) → SameFact g t (cellSet t c p)
-  unfolding cellSet cellInside cellFact kindSet
+  unfolding cellSet cellInside kindSet
   cell-elsewhere (Need a f) p h g other = kind-elsewhere t w a f p dropNeed (omega arith) h g other
   cell-elsewhere (Add a f) p h g other = kind-elsewhere t w a f p addEffect (omega arith) h g other
   cell-elsewhere (Delete a f) p h g other = kind-elsewhere t w a f p dropDelete (omega arith) h g other

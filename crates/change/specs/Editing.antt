@@ -39,7 +39,7 @@ abbrev pub edited : Task → Edit → Task
 edited t e = cellSet t (e .cell) (e .present)
 
 -- The fact that a cell concerns, and so the row that an edit writes afresh.
-unfoldable pub cellFact : Cell → ℕ
+abbrev pub cellFact : Cell → ℕ
 cellFact (Need a f) = f
 cellFact (Add a f) = f
 cellFact (Delete a f) = f

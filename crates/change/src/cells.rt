@@ -9,7 +9,7 @@ ghost use Rattle.table.specs.Tasks.{maskOf};
 ghost use Rattle.change.specs.Kinds.{kindSet};
 
 // The deletes, adds or needs of an action, by the kind.
-pub fn mask_of(t: Table, kind: usize, action: usize) -> u64
+pub(crate) fn mask_of(t: Table, kind: usize, action: usize) -> u64
     requires { ⌜ action < maxActions ⌝ }
     ensures { λ r. ⌜ r ≡ maskOf t kind action ⌝ }
 {
@@ -23,7 +23,7 @@ pub fn mask_of(t: Table, kind: usize, action: usize) -> u64
 }
 
 // The table with one fact of an action present or absent in the deletes, adds or needs, by the kind.
-pub fn set_of_kind(t: Table, kind: usize, action: usize, fact: usize, present: bool) -> Table
+pub(crate) fn set_of_kind(t: Table, kind: usize, action: usize, fact: usize, present: bool) -> Table
     ensures { λ r. ⌜ r ≡ kindSet t kind action fact present ⌝ }
 {
     if kind == Repair::DROP_DELETE {

@@ -54,7 +54,7 @@ fn put_fields(room: &mut [u8], at: usize, numbers: &[usize]) -> usize
     next
 }
 
-pub fn put_line(room: &mut [u8], at: usize, word: &[u8], numbers: &[usize]) -> usize
+pub(crate) fn put_line(room: &mut [u8], at: usize, word: &[u8], numbers: &[usize]) -> usize
     requires { ⌜ at + length (line (now word) (now numbers)) ≤ lastPlace ⌝ }
     ensures { λ r.
         ⌜ Placed (now (room .entry)) (now (room .exit)) at r (line (now (word .entry)) (now (numbers .entry))) ⌝ }

@@ -70,7 +70,13 @@ fn answer_lines(room: &mut [u8], at: usize, list: &[u16]) -> usize
 }
 
 // The whole text, whether the room goes so far or not.
-pub fn whole(read: TaskRead, found: Checked, solved: Reply, list: &[u16], room: &mut [u8]) -> usize
+pub(crate) fn whole(
+    read: TaskRead,
+    found: Checked,
+    solved: Reply,
+    list: &[u16],
+    room: &mut [u8],
+) -> usize
     requires { ⌜ solved .length ≤ length (now list) ⌝ }
     requires { ⌜ length (now list) ≤ maxLimit ⌝ }
     ensures { λ r.

@@ -105,7 +105,7 @@ refused-text c o = refl
 
 -- Both lists under one, so that what is computed is named once.
 computed : AllHold sheet × AllHold figures
-unfolding readFile readFrom faultsAt firstOf isKind isCellKind isFactKind bodyLength bodyAt misplaced sizesWrong outside disordered tableAfter runAfter seenAfter checked openReport totalOpen firstOpen lowestOpen openAt isOpen sumBelow countBelow firstWhere pairSteps certified certifies mends isRightWith isRight ofFact formed sizesFormed actionFormed maskFormed stepFormed everyBelow cellsOf courseOf stateAt permitted permits chosen isIn has within joined removed only cellSet joinVerdicts joinLists someBelow isHopeless isOver foundList cellInside madeBy names cellFact
+unfolding readFile readFrom faultsAt firstOf isKind isCellKind isFactKind bodyLength bodyAt misplaced sizesWrong outside disordered tableAfter runAfter seenAfter checked openReport totalOpen firstOpen lowestOpen openAt isOpen sumBelow countBelow firstWhere pairSteps certified certifies mends isRightWith isRight ofFact formed sizesFormed actionFormed maskFormed stepFormed everyBelow cellsOf courseOf stateAt permitted permits chosen isIn has within joined removed only cellSet joinVerdicts joinLists someBelow isHopeless isOver foundList cellInside madeBy names
 computed = (
   read-row _ _ _ refl refl and
       read-row _ _ _ refl refl and

@@ -17,7 +17,7 @@ ghost use Rattle.search.specs.Searching.{Later};
 // the list found before? `true` is sure, `false` says nothing. Each conflict is one of the candidate with the earlier
 // conflicts put in, and so shares no repair with them. Where the fact is missing even after `left` of them, a list needs
 // one repair more; else no list comes before the candidate with the first repair of each.
-pub fn comes_later(col: Column, s: Choice, left: usize, best: Found) -> bool
+pub(crate) fn comes_later(col: Column, s: Choice, left: usize, best: Found) -> bool
     requires { ⌜ ColumnFormed col ⌝ }
     ensures { λ r. ⌜ (r ≡ true → Later col s left best) ⌝ }
 {

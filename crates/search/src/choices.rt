@@ -19,7 +19,7 @@ ghost use Rattle.search.specs.Choices as choices;
 ghost use Rattle.facts.specs.Sets.{sumBits};
 ghost use Rattle.search.specs.Trying.{withRepair, bothOf, NextAction, NextIn, FirstUnshared, FirstDifference, Earlier, FoundEarlier};
 
-pub fn nothing() -> Choice
+pub(crate) fn nothing() -> Choice
     ensures { λ r. ⌜ r ≡ choices.nothing ⌝ }
 {
     Choice {
@@ -30,7 +30,7 @@ pub fn nothing() -> Choice
 }
 
 // A repair of a fact is known by its code: what its number has beside the fact's share.
-pub fn in_choice(s: Choice, code: usize) -> bool
+pub(crate) fn in_choice(s: Choice, code: usize) -> bool
     ensures { λ r. ⌜ r ≡ inChoice s code ⌝ }
 {
     let kind = code / Repair::PER_KIND;
@@ -44,7 +44,7 @@ pub fn in_choice(s: Choice, code: usize) -> bool
     contains(s.needs, action)
 }
 
-pub fn with_repair(s: Choice, code: usize) -> Choice
+pub(crate) fn with_repair(s: Choice, code: usize) -> Choice
     ensures { λ r. ⌜ r ≡ withRepair s code ⌝ }
 {
     let kind = code / Repair::PER_KIND;
@@ -74,7 +74,7 @@ pub fn with_repair(s: Choice, code: usize) -> Choice
 }
 
 // The repairs that are in one of the sets or in both.
-pub fn joined(a: Choice, b: Choice) -> Choice
+pub(crate) fn joined(a: Choice, b: Choice) -> Choice
     ensures { λ r. ⌜ r ≡ bothOf a b ⌝ }
 {
     Choice {
@@ -92,7 +92,7 @@ fn count_actions(m: u64) -> usize
 }
 
 // How many repairs the set has: the length of its list, whichever fact it is of.
-pub fn size(s: Choice) -> usize
+pub(crate) fn size(s: Choice) -> usize
     ensures { λ r. ⌜ ((f : ℕ) → r ≡ length (listOf f s)) ⌝ }
 {
     count_actions(s.deletes) + count_actions(s.adds) + count_actions(s.needs)
@@ -113,7 +113,7 @@ fn next_action(m: u64, skip: usize) -> usize
 }
 
 // The first code of the set at or after one, or PER_FACT.
-pub fn next_in(s: Choice, from: usize) -> usize
+pub(crate) fn next_in(s: Choice, from: usize) -> usize
     requires { ⌜ from ≤ perFact ⌝ }
     ensures { λ r. ⌜ NextIn s from r ⌝ }
 {
@@ -140,7 +140,7 @@ fn first_unshared(a: u64, b: u64) -> usize
 }
 
 // The first code that one of the sets has and the other has not, or PER_FACT.
-pub fn first_difference(a: Choice, b: Choice) -> usize
+pub(crate) fn first_difference(a: Choice, b: Choice) -> usize
     ensures { λ r. ⌜ FirstDifference a b r ⌝ }
 {
     let deletes = first_unshared(a.deletes, b.deletes);
@@ -160,7 +160,7 @@ pub fn first_difference(a: Choice, b: Choice) -> usize
 
 // "Of two lists of equal length the one with the smaller number at the first difference comes first"; a shorter one
 // comes before either.
-pub fn comes_first(a: Choice, b: Choice) -> bool
+pub(crate) fn comes_first(a: Choice, b: Choice) -> bool
     ensures { λ r. ⌜ Earlier a b r ⌝ }
 {
     let m = size(a);
@@ -172,7 +172,7 @@ pub fn comes_first(a: Choice, b: Choice) -> bool
 }
 
 // Was a list found before that comes before this one, or is this one?
-pub fn found_earlier(best: Found, s: Choice) -> bool
+pub(crate) fn found_earlier(best: Found, s: Choice) -> bool
     ensures { λ r. ⌜ FoundEarlier best s r ⌝ }
 {
     if !best.any {

@@ -11,7 +11,7 @@ ghost use Rattle.search.specs.Searching.{Missing, Conflicts};
 
 // "Look back from j until the last step that deleted f is met, or the start": the deleting step, counted from 1, or 0
 // for the start.
-pub fn look_back(col: Column, s: Choice, j: usize) -> usize
+pub(crate) fn look_back(col: Column, s: Choice, j: usize) -> usize
     requires { ⌜ ColumnFormed col ⌝ }
     requires { ⌜ j ≤ col .count ⌝ }
     ensures { λ r. ⌜ LastDelete col s j r ⌝ }
@@ -31,7 +31,7 @@ pub fn look_back(col: Column, s: Choice, j: usize) -> usize
 
 // The set of the actions of the steps from `start` on and before `end`, counted from 0. A repair changes an action
 // everywhere it is run, so a step stands for its action.
-pub fn actions_between(col: Column, start: usize, end: usize) -> u64
+pub(crate) fn actions_between(col: Column, start: usize, end: usize) -> u64
     requires { ⌜ ColumnFormed col ⌝ }
     requires { ⌜ end ≤ col .count ⌝ }
     ensures { λ r. ⌜ ActionsOf col start end r ⌝ }
@@ -45,21 +45,21 @@ pub fn actions_between(col: Column, start: usize, end: usize) -> u64
 }
 
 // The place of the deleting step; the start is its own place.
-pub fn place_of(step: usize) -> usize
+pub(crate) fn place_of(step: usize) -> usize
     ensures { λ r. ⌜ r ≡ step - 1 ⌝ }
 {
     if step == 0 { 0 } else { step - 1 }
 }
 
 // The place after the step at j; a goal has no step, and so no need to drop.
-pub fn after_step(j: usize, count: usize) -> usize
+pub(crate) fn after_step(j: usize, count: usize) -> usize
     ensures { λ r. ⌜ r ≡ min (j + 1) count ⌝ }
 {
     if j < count { j + 1 } else { count }
 }
 
 // "drop the need at j (not for a goal), drop that delete, add f at any step from the deleting one up to j-1"
-pub fn conflict(col: Column, s: Choice, j: usize) -> Choice
+pub(crate) fn conflict(col: Column, s: Choice, j: usize) -> Choice
     requires { ⌜ ColumnFormed col ⌝ }
     requires { ⌜ Missing col s j ⌝ }
     ensures { λ r. ⌜ Conflicts col s r ⌝ }

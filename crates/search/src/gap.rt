@@ -11,21 +11,21 @@ ghost use Rattle.search.specs.Gaps.{Gap};
 
 // The cells of action a, read through the candidate: no repaired table is built, and in a loop the joined masks stay
 // in registers.
-pub fn needs_with(col: Column, s: Choice, a: usize) -> bool
+pub(crate) fn needs_with(col: Column, s: Choice, a: usize) -> bool
     requires { ⌜ a < maxActions ⌝ }
     ensures { λ r. ⌜ r ≡ cellsWith col s .needs a (col .fact) ⌝ }
 {
     facts::contains(facts::remove(col.needs, s.needs), a)
 }
 
-pub fn adds_with(col: Column, s: Choice, a: usize) -> bool
+pub(crate) fn adds_with(col: Column, s: Choice, a: usize) -> bool
     requires { ⌜ a < maxActions ⌝ }
     ensures { λ r. ⌜ r ≡ cellsWith col s .adds a (col .fact) ⌝ }
 {
     facts::contains(facts::join(col.adds, s.adds), a)
 }
 
-pub fn deletes_with(col: Column, s: Choice, a: usize) -> bool
+pub(crate) fn deletes_with(col: Column, s: Choice, a: usize) -> bool
     requires { ⌜ a < maxActions ⌝ }
     ensures { λ r. ⌜ r ≡ cellsWith col s .deletes a (col .fact) ⌝ }
 {
@@ -34,7 +34,7 @@ pub fn deletes_with(col: Column, s: Choice, a: usize) -> bool
 
 // The first place where the fact is missing: step i + 1 has place i, the goal the place after the last step. One more
 // than that if it is missing nowhere.
-pub fn first_gap(col: Column, s: Choice) -> usize
+pub(crate) fn first_gap(col: Column, s: Choice) -> usize
     requires { ⌜ ColumnFormed col ⌝ }
     ensures { λ r. ⌜ Gap col s r ⌝ }
 {

@@ -18,7 +18,7 @@ ghost use Rattle.search.specs.Searching.{Allowed, Conflicts, Chosen, Sho
 
 // The better of the list found before and the first of the shortest lists that keep the fact right, contain the candidate
 // and have at most `left` repairs more.
-pub fn test(col: Column, s: Choice, left: usize, best: Found) -> Found
+pub(crate) fn test(col: Column, s: Choice, left: usize, best: Found) -> Found
     requires { ⌜ ColumnFormed col ⌝ }
     requires { ⌜ Allowed col s ⌝ }
     ensures { λ r. ⌜ Chosen col s (length (listOf (col .fact) s) + left) best r ⌝ }
@@ -44,7 +44,7 @@ pub fn test(col: Column, s: Choice, left: usize, best: Found) -> Found
 }
 
 // The same, for a candidate that fails: every list that contains it has one of the conflict's repairs.
-pub fn branch(col: Column, s: Choice, q: Choice, left: usize, best: Found) -> Found
+pub(crate) fn branch(col: Column, s: Choice, q: Choice, left: usize, best: Found) -> Found
     requires { ⌜ ColumnFormed col ⌝ }
     requires { ⌜ Allowed col s ⌝ }
     requires { ⌜ Conflicts col s q ⌝ }
@@ -62,7 +62,7 @@ pub fn branch(col: Column, s: Choice, q: Choice, left: usize, best: Found) -> Fo
 
 // The first of the shortest lists that keep the column's fact right, if a row has room for it. Lengths are tried in
 // turn, so that a deep search is paid only where it is needed.
-pub fn shortest(col: Column) -> Found
+pub(crate) fn shortest(col: Column) -> Found
     requires { ⌜ ColumnFormed col ⌝ }
     ensures { λ r. ⌜ Shortest col (r .any) (r .choice) ⌝ }
 {

@@ -27,7 +27,7 @@ fn actions_having(sets: [u64; ACTIONS], f: usize) -> u64
     m
 }
 
-pub fn column_of(t: Task, f: usize) -> Column
+pub(crate) fn column_of(t: Task, f: usize) -> Column
     ensures { λ r. ⌜ (r .fact ≡ f) × Shows t r ⌝ }
 {
     let needs = t.table.needs;
@@ -48,7 +48,7 @@ pub fn column_of(t: Task, f: usize) -> Column
 }
 
 // Every permitted repair of the column's fact: if these do not keep it right, nothing does.
-pub fn fullest(col: Column) -> Choice
+pub(crate) fn fullest(col: Column) -> Choice
     requires { ⌜ ColumnFormed col ⌝ }
     ensures { λ r. ⌜ Fullest col r ⌝ }
 {

@@ -137,7 +137,7 @@ of-action t w a f h = of-fact t w f (and-right (ltb a (t .table .actions)) (ltb 
 
 -- An edit inside names a fact that has a row.
 pub inside-low : (t : Task) → WellFormed t → (c : Cell) → cellInside t c ≡ true → cellFact c < maxFacts
-unfolding cellInside cellFact
+unfolding cellInside
 inside-low t w (Need a f) h = of-action t w a f h
 inside-low t w (Add a f) h = of-action t w a f h
 inside-low t w (Delete a f) h = of-action t w a f h

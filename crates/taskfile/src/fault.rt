@@ -81,7 +81,7 @@ fn body_fault(s: &[u8], at: usize, seen: Seen) -> usize
 }
 
 // The number of the first fault of the record at a place; 0 where it is good.
-pub fn fault_at(s: &[u8], at: usize, seen: Seen) -> usize
+pub(crate) fn fault_at(s: &[u8], at: usize, seen: Seen) -> usize
     ensures { λ r. ⌜ r ≡ faultAt (now (s .entry)) at (seenOf seen) .number ⌝ }
 {
     if s.len() <= at {

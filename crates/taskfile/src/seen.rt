@@ -20,7 +20,7 @@ pub struct Seen {
     pub body: usize,
 }
 
-pub fn nothing_seen() -> Seen
+pub(crate) fn nothing_seen() -> Seen
     ensures { λ r. ⌜ seenOf r ≡ nothingSeen ⌝ }
 {
     let task = crate::no_task();
@@ -85,7 +85,7 @@ fn run_after(run: Run, kind: usize, x: u8) -> Run
 }
 
 // What is seen after the good record at a place.
-pub fn after(s: &[u8], at: usize, seen: Seen) -> Seen
+pub(crate) fn after(s: &[u8], at: usize, seen: Seen) -> Seen
     requires { ⌜ faultAt (now s) at (seenOf seen) .number ≡ accepted ⌝ }
     ensures { λ r. ⌜ seenOf r ≡ seenAfter (now (s .entry)) at (seenOf seen) ⌝ }
 {

@@ -58,7 +58,7 @@ fn through_cells(task: Task, room: &mut [u8]) -> usize
 }
 
 // The place past the file, whether the room goes so far or not.
-pub fn whole(task: Task, room: &mut [u8]) -> usize
+pub(crate) fn whole(task: Task, room: &mut [u8]) -> usize
     requires { ⌜ WellFormed task ⌝ }
     ensures { λ r. ⌜ Placed (now (room .entry)) (now (room .exit)) 0 r (fileOf task) ⌝ }
 {

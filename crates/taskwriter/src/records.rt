@@ -23,7 +23,7 @@ fn record_if_in(room: &mut [u8], at: usize, set: u64, fact: usize, bytes: &[u8])
     at
 }
 
-pub fn fact_records(room: &mut [u8], at: usize, kind: u8, facts: usize, set: u64) -> usize
+pub(crate) fn fact_records(room: &mut [u8], at: usize, kind: u8, facts: usize, set: u64) -> usize
     requires { ⌜ (at + length (factRecords kind facts set) ≤ lastPlace) × (facts ≤ maxFacts) ⌝ }
     ensures { λ r. ⌜ Placed (now (room .entry)) (now (room .exit)) at r (factRecords kind facts set) ⌝ }
 {
@@ -55,7 +55,7 @@ fn action_records(
     next
 }
 
-pub fn cell_records(
+pub(crate) fn cell_records(
     room: &mut [u8],
     at: usize,
     kind: u8,
@@ -73,7 +73,7 @@ pub fn cell_records(
     next
 }
 
-pub fn step_records(room: &mut [u8], at: usize, run: Run) -> usize
+pub(crate) fn step_records(room: &mut [u8], at: usize, run: Run) -> usize
     requires { ⌜ (at + length (stepRecords run) ≤ lastPlace) × (run .count ≤ maxSteps) ⌝ }
     ensures { λ r. ⌜ Placed (now (room .entry)) (now (room .exit)) at r (stepRecords run) ⌝ }
 {
