@@ -7,9 +7,7 @@ use native.Mathlib.Omega.{arith}
 use lib.Dec.{eqb, ltb}
 use borrow.Author.Tests.{ltb-true, eqb-true, eq-eqb, ne-eqb}
 use Rattle.facts.specs.Sets.{width, has}
-use Rattle.table.proofs.AnswerLaws.{within-same}
 use Rattle.table.proofs.FlagLaws.{both, and-both}
-use Rattle.table.specs.Answer.{Verdict, Within}
 use Rattle.table.specs.Repairs.{dropDelete, addEffect, dropNeed}
 use Rattle.table.specs.Sizes.{kinds}
 use Rattle.table.specs.Tasks.{cellsOf, courseOf, maskOf, KeepsFor, Shaped, WellFormed}
@@ -150,9 +148,6 @@ module _ (t : Task) (e : Edit) (w : WellFormed t) (inside : cellInside t (e .cel
   pub edited-well : WellFormed (edited t e)
   edited-well = outside-well t (edited t e) w (cell-outside t w (e .cell) (e .present) inside)
 
-  pub edited-same-sizes : SameSizes t (edited t e)
-  edited-same-sizes = cell-outside t w (e .cell) (e .present) inside .sizes
-
   pub edited-sets : cellValue (edited t e) (e .cell) ≡ e .present
   edited-sets = cell-sets t w (e .cell) (e .present) inside
 
@@ -164,6 +159,3 @@ module _ (t : Task) (e : Edit) (w : WellFormed t) (inside : cellInside t (e .cel
 
   pub keeps-elsewhere-back : (g : ℕ) → (g ≡ cellFact (e .cell) → ⊥) → (l : List ℕ) → KeepsFor (edited t e) g l → KeepsFor t g l
   keeps-elsewhere-back g other l = keeps-same g (edited t e) t (same-back g t (edited t e) (edited-elsewhere g other)) l
-
-  pub within-elsewhere : (g : ℕ) → (g ≡ cellFact (e .cell) → ⊥) → (k : ℕ) (v : Verdict) → Within (KeepsFor t g) k v → Within (KeepsFor (edited t e) g) k v
-  within-elsewhere g other = within-same (KeepsFor t g) (KeepsFor (edited t e) g) (keeps-elsewhere g other) (keeps-elsewhere-back g other)

@@ -3,7 +3,6 @@ use mathlib.Core.Bool.{true, false, cond, true≢false}
 use mathlib.Core.Path.{_≡_, refl, sym, ap, _∙_}
 use Prim.Native.Nat.{ℕ, zero, suc, _+_, _/_, _%_, _^_, _≤_, _<_}
 use native.Mathlib.Nat.{le-of-suc-le-suc, not-suc-le-zero, zero-lt-suc, mod-lt}
-use native.Mathlib.Numerals.{add-one}
 use native.Mathlib.Omega.{arith}
 use lib.Arith.{bin-ind, lt-of-le-ne}
 use lib.Count.{ones, ones-step, ones-le, trailingZeros, trailing-of-zero, trailing-le, under}
@@ -18,11 +17,6 @@ use Rattle.facts.proofs.Laws.{has-empty, has-out, same-sets}
 pub bit-has : (m f : ℕ) → bit m f ≡ cond (has m f) 1 0
 unfolding has
 bit-has m f = digit (λ (x : ℕ). x ≡ cond (eqb x 1) 1 0) refl refl (bit m f) (bit-lt m f)
-
--- one fact more, in the code's form
-pub sumBits-next : (n m : ℕ) → sumBits (n + 1) m ≡ sumBits n m + bit m n
-unfolding sumBits
-sumBits-next n m = rw (add-one n)
 
 sumBits-half : (n m : ℕ) → sumBits (suc n) m ≡ m % 2 + sumBits n (m / 2)
 unfolding sumBits

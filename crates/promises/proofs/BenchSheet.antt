@@ -8,7 +8,7 @@ use Prim.Native.String.{String}
 use lib.Dec.{ltb}
 use lib.ListN.{length}
 use borrow.Author.Tests.{ltb-true}
-use Rattle.change.specs.Editing.{edited, cellSet, cellFact, cellInside}
+use Rattle.change.specs.Editing.{edited, cellSet, cellInside}
 use Rattle.change.specs.declared.Edit.{Edit}
 use Rattle.facts.specs.Sets.{has, within, joined, removed, only}
 use Rattle.listing.proofs.Determined.{listing-unique}

@@ -2,12 +2,9 @@
 -- the contract determines number, place, value and the final content of what was lent. Here the calls of the library; UniqueBoundary has
 -- the record reader's and the boundary's. The one exception: of a body handed out the bytes are determined, not the address where they
 -- stand. Assumes nothing.
-use mathlib.Core.Bool.{Bool, true, false}
 use mathlib.Core.List.{List}
-use mathlib.Core.Path.{_≡_, refl, sym, _∙_}
+use mathlib.Core.Path.{_≡_, sym, _∙_}
 use Prim.Native.Nat.{ℕ}
-use lib.Dec.{eqb}
-use borrow.Author.Tests.{eqb-true, eqb-false}
 use Rattle.change.proofs.ApplyLaws.{applies-unique}
 use Rattle.change.specs.Applying.{Applies}
 use Rattle.change.specs.declared.Edit.{Edit}
@@ -16,14 +13,13 @@ use Rattle.listing.specs.Listing.{ListsInto}
 use Rattle.runcheck.specs.OpenNeeds.{checked}
 use Rattle.runcheck.specs.declared.Checked.{Checked}
 use Rattle.session.proofs.CallLaws.{opens-unique, edits-unique, story-unique}
-use Rattle.session.specs.Calls.{Opens, Edits, listed, Story, openRefusal, madeBy}
-use Rattle.session.specs.Replays.{editOf, editsIn, WholeSession}
+use Rattle.session.proofs.Demand3.{whole-unique}
+use Rattle.session.specs.Calls.{Opens, Edits, listed, Story}
+use Rattle.session.specs.Replays.{editOf, WholeSession}
 use Rattle.session.specs.declared.Edited.{Edited}
-use Rattle.solve.proofs.RowLaws.{stored-unique}
 use Rattle.solve.proofs.SolveLaws.{solve-unique}
 use Rattle.solve.specs.Solving.{Solves}
 use Rattle.table.specs.Outcomes.{Outcome}
-use Rattle.table.specs.Refusals.{accepted}
 use Rattle.table.specs.declared.Reply.{Reply}
 use Rattle.table.specs.declared.Task.{Task}
 use Rattle.taskfile.proofs.Unique.{reads-unique}
@@ -93,18 +89,4 @@ pub replay-unique : (t : Task) (s : List ℕ) (es : List Edit) → Determined (�
 replay-unique t s es r q a b = both-equal r q (story-unique t s es (r .0) (q .0) (r .1) (q .1) a b)
 
 pub whole-session-unique : (t : Task) (s es room : List ℕ) → Determined (λ (o : Outcome × List ℕ). WholeSession t s es room (o .0) (o .1))
-whole-session-unique t s es room r q a b = both-equal r q (pick (eqb (openRefusal t s .number) accepted) refl)
-  where
-    pick : (x : Bool) → eqb (openRefusal t s .number) accepted ≡ x → (r .0 ≡ q .0) × (r .1 ≡ q .1)
-    pick true h =
-        let n = eqb-true (openRefusal t s .number) accepted h in
-        let x = a .solved n in
-        let y = b .solved n in (
-          solve-unique (madeBy t (editsIn es)) room (r .0) (q .0) (x .0) (y .0),
-          stored-unique (madeBy t (editsIn es)) (r .1) (q .1) (x .1) (y .1),
-        )
-    pick false h =
-        let n = eqb-false (openRefusal t s .number) accepted h in
-        let x = a .refused n in
-        let y = b .refused n in
-        (x .0 ∙ sym (y .0), x .1 ∙ sym (y .1))
+whole-session-unique t s es room r q a b = both-equal r q (whole-unique t s es room (r .0) (q .0) (r .1) (q .1) a b)

@@ -26,10 +26,6 @@ use Rattle.table.proofs.RunLaws.{stateAt-next}
 unfoldable picks : (ℕ → Bool) → ℕ → ℕ → List ℕ
 picks p base n = gather (λ i. piece (p (base + i)) ((base + i) ∷ [])) n
 
-picks-suc : (p : ℕ → Bool) (base n : ℕ) → picks p base (suc n) ≡ picks p base n ++ piece (p (base + n)) ((base + n) ∷ [])
-unfolding picks gather
-picks-suc p base n = refl
-
 module _ (p : ℕ → Bool) where
   one-in : (x m : ℕ) (b : Bool) → p x ≡ b → isIn (piece b (x ∷ [])) m ≡ true → (m ≡ x) × (p m ≡ true)
   one-in x m false e h = absurd (isIn-none m h)

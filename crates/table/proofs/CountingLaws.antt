@@ -18,10 +18,6 @@ use Rattle.table.proofs.FlagLaws.{by-order}
 
 -- ---- sums
 
-pub sumBelow-none : (g : ℕ → ℕ) → sumBelow g 0 ≡ 0
-unfolding sumBelow
-sumBelow-none g = refl
-
 -- one number more, in the code's form
 pub sumBelow-next : (g : ℕ → ℕ) (n : ℕ) → sumBelow g (n + 1) ≡ sumBelow g n + g n
 unfolding sumBelow
@@ -161,12 +157,6 @@ firstWhere-same p q n same =
       before = λ i h. same i (lt-of-lt-of-le h (firstWhere-le q n)) ∙ firstWhere-first q n i h;
       holds = λ h. same (firstWhere q n) h ∙ firstWhere-holds q n h;
     })
-
--- one number more, in the code's form
-pub firstWhere-next : (p : ℕ → Bool) (n : ℕ)
-    → firstWhere p (n + 1) ≡ cond (eqb (firstWhere p n) n) (cond (p n) n (n + 1)) (firstWhere p n)
-unfolding firstWhere
-firstWhere-next p n = rw (add-one n)
 
 -- what was found stays found
 pub firstWhere-stays : (p : ℕ → Bool) (n : ℕ) → firstWhere p n < n → firstWhere p (n + 1) ≡ firstWhere p n

@@ -2,16 +2,14 @@
 -- Assumes nothing.
 use mathlib.Core.Bool.{Bool, true, false, not, _&&_, _||_, cond}
 use mathlib.Core.Path.{_≡_, refl, sym, _∙_, subst}
-use Prim.Native.Nat.{ℕ, zero, suc, _+_, _^_, _<_, _≤_}
-use native.Mathlib.Nat.{lt-of-lt-of-le}
+use Prim.Native.Nat.{ℕ, zero, suc, _+_, _<_, _≤_}
 use native.Mathlib.Numerals.{add-one}
 use native.Mathlib.Omega.{arith}
 use lib.Dec.{eqb, leb, ltb}
 use lib.ListN.{getD, List·getD-eq-default}
-use lib.Pow.{pow-mono}
 use borrow.Author.Tests.{ltb-true, leb-true, eqb-true, lt-ltb, le-ltb, le-leb, eq-eqb, not-true, not-false}
 use Rattle.facts.specs.Sets.{has, within}
-use Rattle.facts.proofs.Laws.{has-empty, within-has, has-within, within-lt}
+use Rattle.facts.proofs.Laws.{has-empty, within-has, has-within}
 use Rattle.table.specs.Counting.{everyBelow}
 use Rattle.table.specs.Sizes.{maxFacts, maxActions, maxSteps, maxLimit}
 use Rattle.table.specs.Repairs.{byKind, dropDelete, addEffect, dropNeed}
@@ -198,19 +196,6 @@ step-below t w i =
 
 pub step-lt : (t : Task) → WellFormed t → (i : ℕ) → getD (t .run .steps) i 0 < maxActions
 step-lt t w i = omega (arith, step-below t w i, w .actions-high)
-
--- a set with no fact at or above F fits a mask
-inside-lt : (t : Task) → WellFormed t → (m : ℕ) → ((f : ℕ) → t .table .facts ≤ f → has m f ≡ false) → m < 2 ^ maxFacts
-inside-lt t w m h = lt-of-lt-of-le (within-lt m (t .table .facts) (has-within m (t .table .facts) h)) (pow-mono (w .facts-high))
-
-pub mask-lt : (t : Task) → WellFormed t → (k a : ℕ) → maskOf (t .table) k a < 2 ^ maxFacts
-mask-lt t w k a = inside-lt t w (maskOf (t .table) k a) (w .inside k a)
-
-pub start-lt : (t : Task) → WellFormed t → t .run .start < 2 ^ maxFacts
-start-lt t w = inside-lt t w (t .run .start) (w .start-inside)
-
-pub goal-lt : (t : Task) → WellFormed t → t .run .goal < 2 ^ maxFacts
-goal-lt t w = inside-lt t w (t .run .goal) (w .goal-inside)
 
 -- ---- the named parts give the test
 
