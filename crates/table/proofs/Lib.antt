@@ -1,5 +1,5 @@
 -- What other crates cite of `table`: the laws of flags, counts and gathered lists, of the order of lists, of runs, repairs
--- and the answer, of tasks, of repair numbers, and of what is given into lent room.
+-- and the answer, of tasks, of repair numbers, and of what is given into lent room. And the worked examples, for a reader.
 pub mod FlagLaws
 pub mod OutcomeLaws
 pub mod CountingLaws
@@ -8,7 +8,12 @@ pub mod OrderLaws
 pub mod RunLaws
 pub mod RepairLaws
 pub mod AnswerLaws
+pub mod PublishedLaws
 pub mod JoinLaws
 pub mod Formation
 pub mod RepairNumbers
 pub mod Strides
+pub mod ContractLaws
+pub mod Called
+pub mod DecidingLaws
+pub mod Worked

@@ -40,6 +40,20 @@ WorksFor t = Works (cellsOf (t .table)) (courseOf (t .run))
 abbrev pub KeepsFor : Task → ℕ → List ℕ → Type 0
 KeepsFor t f = Keeps (cellsOf (t .table)) (courseOf (t .run)) f
 
+-- The task with another limit.
+abbrev pub withLimit : Task → ℕ → Task
+withLimit t l = record {
+  table = record {
+    facts = t .table .facts;
+    actions = t .table .actions;
+    limit = l;
+    needs = t .table .needs;
+    adds = t .table .adds;
+    deletes = t .table .deletes;
+  };
+  run = t .run;
+}
+
 -- The mask of deletes, adds or needs of action a, by the kind of repair that concerns it.
 abbrev pub maskOf : Table → ℕ → ℕ → ℕ
 maskOf t k a = byKind k (getD (t .deletes) a 0) (getD (t .adds) a 0) (getD (t .needs) a 0)

@@ -1,0 +1,170 @@
+-- "001 permits kind 1 for every fact. Ours leaves out only repairs that do nothing, so least lists are the same" (document 01, "The model and
+-- its run"): over the lists that 001 permits, the verdict and the first of the shortest are those over ours.
+use mathlib.Core.Bool.{Bool, true, false, not, _&&_, _||_, cond, and-false}
+use mathlib.Core.List.{List, [], _∷_}
+use mathlib.Core.Logic.{_↔_}
+use mathlib.Core.Path.{_≡_, refl, sym, ap, subst, _∙_}
+use Prim.Native.Nat.{ℕ, suc, _<_}
+use native.Mathlib.Omega.{arith}
+use borrow.Author.Tests.{eqb-true, ltb-true}
+use lib.Dec.{eqb, ltb}
+use Rattle.table.proofs.FlagLaws.{and-left, and-right, and-both, same-flag}
+use Rattle.table.proofs.OrderLaws.{ascending-weaken, ≼-length, ≼-trans, ≼-antisymmetric, subset-first}
+use Rattle.table.proofs.RepairNumbers.{permitted-number, fact-back, kind-back, action-back}
+use Rattle.table.proofs.RunLaws.{SameAt, sameCourse-refl, right-same, valid-right, right-valid}
+use Rattle.table.specs.Answer.{Works, First, Verdict, found, over, hopeless, Within}
+use Rattle.table.specs.Order.{Ascending, AscendingFrom, isIn, _≼_}
+use Rattle.table.specs.Published.{permitsPublished, permittedPublished, WorksPublished}
+use Rattle.table.specs.Repairs.{dropDelete, addEffect, dropNeed, byKind, numberOf, factOf, kindOf, actionOf, permits, permitted, chosen, repaired}
+use Rattle.table.specs.Sizes.{maxActions, kinds}
+use Rattle.table.specs.Strips.{Cells, Course}
+
+-- ---- a list without the numbers that fail a test
+
+unfoldable kept : (ℕ → Bool) → List ℕ → List ℕ
+kept p [] = []
+kept p (x ∷ l) = cond (p x) (x ∷ kept p l) (kept p l)
+
+module _ (p : ℕ → Bool) where
+  kept-in : (l : List ℕ) (n : ℕ) → isIn (kept p l) n ≡ (isIn l n && p n)
+  unfolding kept isIn
+  kept-in [] n = refl
+  kept-in (x ∷ l) n = pick (p x) (eqb n x) refl refl (kept-in l n)
+    where
+      here : (b : Bool) → p x ≡ b → eqb n x ≡ true → p n ≡ b
+      here b hb he = ap p (eqb-true n x he) ∙ hb
+
+      pick : (b e : Bool) → p x ≡ b → eqb n x ≡ e → isIn (kept p l) n ≡ (isIn l n && p n)
+          → isIn (cond b (x ∷ kept p l) (kept p l)) n ≡ ((e || isIn l n) && p n)
+      pick true true hb he rest = rw (he, here true hb he)
+      pick true false hb he rest = rw (he) rest
+      pick false true hb he rest = rest ∙ rw (here false hb he, and-false (isIn l n))
+      pick false false hb he rest = rest
+
+  kept-ascending : (low : ℕ) (l : List ℕ) → AscendingFrom low l → AscendingFrom low (kept p l)
+  unfolding kept
+  kept-ascending low [] u = tt
+  kept-ascending low (x ∷ l) u = pick (p x) (kept-ascending (suc x) l (u .1))
+    where
+      pick : (b : Bool) → AscendingFrom (suc x) (kept p l) → AscendingFrom low (cond b (x ∷ kept p l) (kept p l))
+      pick true rest = (u .0, rest)
+      pick false rest = ascending-weaken low (suc x) (kept p l) (omega (arith, u .0)) rest
+
+-- ---- more lists, each of which has one of ours before it: the same verdict
+
+module _ (G H : List ℕ → Type 0) (there : (m : List ℕ) → G m → H m) (before : (m : List ℕ) → H m → (l : List ℕ) × G l × (l ≼ m)) where
+  more-first : (l : List ℕ) → First G l ↔ First H l
+  more-first l = (
+    λ p. record { member = there l (p .member); least = λ m h. let w = before m h in ≼-trans l (w .0) m (p .least (w .0) (w .1)) (w .2) },
+    λ p.
+        let w = before l (p .member) in
+        let same = ≼-antisymmetric (w .0) l (w .2) (p .least (w .0) (there (w .0) (w .1))) in
+        record { member = subst G same (w .1); least = λ m g. p .least m (there m g) },
+  )
+
+  more-within : (k : ℕ) (v : Verdict) → Within G k v ↔ Within H k v
+  more-within k (found l) = (λ p. (more-first l .0 (p .0), p .1), λ p. (more-first l .1 (p .0), p .1))
+  more-within k over = (
+    λ p. ((p .0 .0, there (p .0 .0) (p .0 .1)), λ m h. let w = before m h in omega (arith, p .1 (w .0) (w .1), ≼-length (w .0) m (w .2))),
+    λ p. let w = before (p .0 .0) (p .0 .1) in ((w .0, w .1), λ m g. p .1 m (there m g)),
+  )
+  more-within k hopeless = (λ p m h. let w = before m h in p (w .0) (w .1), λ p m g. p m (there m g))
+
+-- ---- what 001 permits beside ours does nothing
+
+module _ (c : Cells) where
+  -- an action and a fact of the task
+  abbrev inside : ℕ → ℕ → Bool
+  inside f a = ltb f (c .facts) && ltb a (c .actions)
+
+  permits-published : (f k a : ℕ) → permits c f k a ≡ true → permitsPublished c f k a ≡ true
+  unfolding permits permitsPublished
+  permits-published f k a h =
+      and-both (inside f a) (byKind k (c .deletes a f) true (c .needs a f))
+      (and-left (inside f a) (byKind k (c .deletes a f) (not (c .adds a f)) (c .needs a f)) h)
+      (more (eqb k dropDelete) (eqb k addEffect) (and-right (inside f a) _ h))
+    where
+      more : (x y : Bool) → cond x (c .deletes a f) (cond y (not (c .adds a f)) (c .needs a f)) ≡ true
+          → cond x (c .deletes a f) (cond y true (c .needs a f)) ≡ true
+      more true y p = p
+      more false true p = refl
+      more false false p = p
+
+  works-published : (r : Course) (l : List ℕ) → Works c r l → WorksPublished c r l
+  unfolding permitted permittedPublished
+  works-published r l w = record {
+    permitted = record {
+      ascending = w .permitted .ascending;
+      each = λ n h. permits-published (factOf n) (kindOf n) (actionOf n) (w .permitted .each n h);
+    };
+    valid = w .valid;
+  }
+
+  -- a list that 001 permits, without the repairs that ours does not: what it changes is the same
+  module _ (l : List ℕ) (each : (n : ℕ) → isIn l n ≡ true → permittedPublished c n ≡ true) where
+    chosen-kept : (f k a : ℕ) → k < kinds → (permitsPublished c f k a ≡ true → permits c f k a ≡ true)
+        → chosen (isIn l) f k a ≡ chosen (isIn (kept (permitted c) l)) f k a
+    unfolding chosen permittedPublished
+    chosen-kept f k a h ours = pick (ltb a maxActions) refl
+      where
+        n : ℕ
+        n = numberOf f k a
+
+        named : a < maxActions → isIn l n ≡ true → permitted c n ≡ true
+        named small there =
+            permitted-number c f k a h small
+            ∙ ours (rw (fact-back f k a h small, kind-back f k a h small, action-back f k a h small) at (each n there))
+
+        pick : (b : Bool) → ltb a maxActions ≡ b → (b && isIn l n) ≡ (b && isIn (kept (permitted c) l) n)
+        pick true e =
+            same-flag (isIn l n) (isIn (kept (permitted c) l) n)
+            (λ t. kept-in (permitted c) l n ∙ and-both (isIn l n) (permitted c n) t (named (ltb-true a maxActions e) t))
+            (λ t. and-left (isIn l n) (permitted c n) (sym (kept-in (permitted c) l n) ∙ t))
+        pick false e = refl
+
+    added-kept : (f a : ℕ) → (c .adds a f || chosen (isIn l) f addEffect a) ≡ (c .adds a f || chosen (isIn (kept (permitted c) l)) f addEffect a)
+    unfolding permits permitsPublished
+    added-kept f a = pick (c .adds a f) refl
+      where
+        pick : (b : Bool) → c .adds a f ≡ b → (b || chosen (isIn l) f addEffect a) ≡ (b || chosen (isIn (kept (permitted c) l)) f addEffect a)
+        pick true e = refl
+        pick false e =
+            chosen-kept f addEffect a (omega arith)
+            (λ p. and-both (inside f a) (not (c .adds a f)) (and-left (inside f a) true p) (ap not e))
+
+    same-table : (r : Course) (f : ℕ) → SameAt f r (repaired c (isIn l)) (repaired c (isIn (kept (permitted c) l)))
+    unfolding permits permitsPublished
+    same-table r f = record {
+      needs = λ i h j. c .needs (r .step i) f && not (chosen-kept f dropNeed (r .step i) (omega arith) (λ p. p) j);
+      adds = λ i h. added-kept f (r .step i);
+      deletes = λ i h j. c .deletes (r .step i) f && not (chosen-kept f dropDelete (r .step i) (omega arith) (λ p. p) j);
+    }
+
+  published-works : (r : Course) (l : List ℕ) → WorksPublished c r l → (m : List ℕ) × Works c r m × (m ≼ l)
+  published-works r l w = (
+    kept (permitted c) l,
+    record {
+      permitted = record { ascending = ascending; each = λ n h. and-right (isIn l n) (permitted c n) (from n h) };
+      valid = right-valid (repaired c (isIn (kept (permitted c) l))) r
+          (λ f.
+          right-same f r r (repaired c (isIn l)) (repaired c (isIn (kept (permitted c) l))) (same-table l (w .permitted .each) r f)
+          (sameCourse-refl f r) (valid-right (repaired c (isIn l)) r (w .valid) f));
+    },
+    subset-first 0 l 0 (kept (permitted c) l) ascending (w .permitted .ascending) (λ n h. and-left (isIn l n) (permitted c n) (from n h)),
+  )
+    where
+      ascending : Ascending (kept (permitted c) l)
+      ascending = kept-ascending (permitted c) 0 l (w .permitted .ascending)
+
+      from : (n : ℕ) → isIn (kept (permitted c) l) n ≡ true → (isIn l n && permitted c n) ≡ true
+      from n h = sym (kept-in (permitted c) l n) ∙ h
+
+-- ---- the theorem
+
+-- The first of the shortest lists is the same, whether or not kind 1 is permitted for every fact.
+pub published-first : (c : Cells) (r : Course) (l : List ℕ) → First (Works c r) l ↔ First (WorksPublished c r) l
+published-first c r = more-first (Works c r) (WorksPublished c r) (works-published c r) (published-works c r)
+
+-- And so is what there is to say within a limit: refusals 9 and 10 too.
+pub published-within : (c : Cells) (r : Course) (limit : ℕ) (v : Verdict) → Within (Works c r) limit v ↔ Within (WorksPublished c r) limit v
+published-within c r = more-within (Works c r) (WorksPublished c r) (works-published c r) (published-works c r)

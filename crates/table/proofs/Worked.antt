@@ -1,0 +1,134 @@
+-- The worked examples hold: each list is computed to work, step by step and fact by fact, or not to. Assumes nothing.
+use mathlib.Core.Bool.{Bool, true, not, _&&_, _||_, false≢true}
+use mathlib.Core.List.{List, [], _∷_}
+use mathlib.Core.Logic.{_⊎_, inl, inr}
+use mathlib.Core.Path.{_≡_, refl, ap, _∙_}
+use Prim.Native.Nat.{ℕ, _<_}
+use native.Mathlib.Decide.{decLt}
+use native.Mathlib.Omega.{arith}
+use borrow.Author.Tests.{eqb-true}
+use lib.Dec.{eqb}
+use lib.ListN.{length}
+use Rattle.facts.specs.Sets.{has, within}
+use Rattle.table.proofs.DecidingLaws.{is-right, is-shaped}
+use Rattle.table.proofs.FlagLaws.{both}
+use Rattle.table.proofs.Formation.{everyBelow-all, formed-well}
+use Rattle.table.proofs.JoinLaws.{formed-inside, right-outside}
+use Rattle.table.proofs.OrderLaws.{compared, isIn-none, isIn-cases, ≼-length}
+use Rattle.table.proofs.RunLaws.{right-valid}
+use Rattle.table.specs.Bench.{listingTask, goalsAtStart, addsAndDeletes, deletesTheGoal, needsLastFact}
+use Rattle.table.specs.Counting.{everyBelow}
+use Rattle.table.specs.Deciding.{isRight, isShaped}
+use Rattle.table.specs.Order.{Ascending, isIn, _≼_}
+use Rattle.table.specs.Repairs.{permits, permitted, chosen, repaired}
+use Rattle.table.specs.Sizes.{maxActions, maxSteps}
+use Rattle.table.specs.Strips.{Cells, Course, stateAt, Right}
+use Rattle.table.specs.Tasks.{cellsOf, courseOf, formed, sizesFormed, maskFormed, actionFormed, stepFormed, Shaped, WellFormed, WorksFor}
+use Rattle.table.specs.Worked.{twoDeletes, Worked}
+use Rattle.table.specs.declared.Task.{Task}
+
+-- ---- what computing decides of a list
+
+unfoldable allPermitted : Cells → List ℕ → Bool
+allPermitted c [] = true
+allPermitted c (n ∷ l) = permitted c n && allPermitted c l
+
+all-permitted : (c : Cells) (l : List ℕ) → allPermitted c l ≡ true → (n : ℕ) → isIn l n ≡ true → permitted c n ≡ true
+unfolding allPermitted
+all-permitted c [] h n m = absurd (isIn-none n m)
+all-permitted c (x ∷ l) h n m =
+    let p = both (permitted c x) (allPermitted c l) h in
+    pick (p .0) (all-permitted c l (p .1) n) (isIn-cases x l n m)
+  where
+    pick : permitted c x ≡ true → (isIn l n ≡ true → permitted c n ≡ true) → (n ≡ x) ⊎ (isIn l n ≡ true) → permitted c n ≡ true
+    pick first later (inl e) = ap (permitted c) e ∙ first
+    pick first later (inr k) = later k
+
+-- Every fact is right in the table with the list applied, if those of the task are.
+abbrev rightWith : Task → List ℕ → ℕ → Bool
+rightWith t l = isRight (repaired (cellsOf (t .table)) (isIn l)) (courseOf (t .run))
+
+each-right : (t : Task) (l : List ℕ) → WellFormed t → everyBelow (rightWith t l) (t .table .facts) ≡ true → (f : ℕ)
+    → Dec (f < t .table .facts) → Right (repaired (cellsOf (t .table)) (isIn l)) (courseOf (t .run)) f
+unfolding cellsOf
+each-right t l w h f (yes low) =
+    is-right (repaired (cellsOf (t .table)) (isIn l)) (courseOf (t .run)) f (everyBelow-all (rightWith t l) (t .table .facts) h f low)
+each-right t l w h f (no high) = right-outside (cellsOf (t .table)) (courseOf (t .run)) (formed-inside t w) f (omega arith) (isIn l)
+
+-- A well-formed task, with arrays of their declared lengths, and a permitted list with which every fact is right.
+unfoldable passes : Task → List ℕ → Bool
+passes t l = isShaped t && formed t && (allPermitted (cellsOf (t .table)) l && everyBelow (rightWith t l) (t .table .facts))
+
+works-by : (t : Task) (l : List ℕ) → Ascending l → passes t l ≡ true → WorksFor t l
+unfolding passes
+works-by t l up h =
+    let p = both (isShaped t && formed t) _ h in
+    let q = both (isShaped t) (formed t) (p .0) in
+    let s = both (allPermitted (cellsOf (t .table)) l) (everyBelow (rightWith t l) (t .table .facts)) (p .1) in
+    record {
+      permitted = record { ascending = up; each = all-permitted (cellsOf (t .table)) l (s .0) };
+      valid = right-valid (repaired (cellsOf (t .table)) (isIn l)) (courseOf (t .run))
+          (λ f. each-right t l (formed-well t (is-shaped t (q .0)) (q .1)) (s .1) f (decLt f (t .table .facts)));
+    }
+
+-- ---- the order
+
+-- Where the empty list is not among them, none is of length 0, and none comes before the list 0.
+longer : (G : List ℕ → Type 0) → (G [] → ⊥) → (m : List ℕ) → G m → 0 < length m
+longer G none [] g = absurd (none g)
+longer G none (y ∷ m) g = omega arith
+
+zero-first : (G : List ℕ → Type 0) → (G [] → ⊥) → (m : List ℕ) → G m → (0 ∷ []) ≼ m
+zero-first G none [] g = absurd (none g)
+zero-first G none (y ∷ []) g = pick (compared 0 y)
+  where
+    pick : (0 < y) ⊎ ((0 ≡ y) ⊎ (y < 0)) → (0 ∷ []) ≼ (y ∷ [])
+    pick (inl h) = inr (inl (h, refl))
+    pick (inr (inl e)) = inr (inr (e, tt))
+    pick (inr (inr h)) = absurd (omega arith)
+zero-first G none (y ∷ z ∷ m) g = inl (omega arith)
+
+later : (32 ∷ []) ≼ (0 ∷ []) → ⊥
+later (inl h) = absurd (omega arith)
+later (inr (inl h)) = absurd (omega (arith, h .0))
+later (inr (inr h)) = absurd (omega (arith, h .0))
+
+-- ---- the theorem
+
+pub worked : Worked
+unfolding passes isShaped formed sizesFormed actionFormed maskFormed stepFormed everyBelow cellsOf courseOf stateAt isRight allPermitted permitted permits chosen isIn has within
+worked =
+    let zero : WorksFor deletesTheGoal (0 ∷ []) = works-by deletesTheGoal (0 ∷ []) (omega arith, tt) refl in
+    let none : WorksFor deletesTheGoal [] → ⊥ = λ w. false≢true (w .valid .reaches 0 refl) in
+    let need : WorksFor twoDeletes (66 ∷ []) = works-by twoDeletes (66 ∷ []) (omega arith, tt) refl in
+    record {
+      refusals = refl;
+      numbers = (refl, refl, refl, refl);
+      permits-7 = refl;
+      permits-6 = refl;
+      permits-need = refl;
+      row-2 = (
+        works-by listingTask (97 ∷ 224 ∷ []) (omega arith, (omega arith, tt)) refl,
+        λ w. false≢true (w .valid .may-run 2 (omega arith) 2 refl),
+        λ w. false≢true (w .valid .may-run 2 (omega arith) 1 refl),
+      );
+      row-4 = works-by goalsAtStart [] tt refl;
+      row-5 = λ m w. false≢true (w .valid .reaches 0 refl);
+      row-6 = works-by addsAndDeletes [] tt refl;
+      row-7 = (
+        (record { member = zero; least = zero-first (WorksFor deletesTheGoal) none }, omega arith),
+        works-by deletesTheGoal (32 ∷ []) (omega arith, tt) refl,
+        later,
+      );
+      row-7-over = ((0 ∷ [], zero), longer (WorksFor deletesTheGoal) none);
+      row-8 = (
+        works-by needsLastFact (6112 ∷ []) (omega arith, tt) refl,
+        λ w. false≢true (w .valid .may-run 0 (omega arith) 63 refl),
+      );
+      inclusion = (
+        works-by twoDeletes (0 ∷ 1 ∷ []) (omega arith, (omega arith, tt)) refl,
+        λ w. false≢true (w .valid .may-run 3 (omega arith) 0 refl),
+        λ w. false≢true (w .valid .may-run 1 (omega arith) 0 refl),
+      );
+      number = (need, λ p. absurd (omega (arith, ≼-length (0 ∷ 1 ∷ []) (66 ∷ []) (p .least (66 ∷ []) need))));
+    }
