@@ -1,14 +1,14 @@
 -- Laws of one fact's column with a candidate applied: what the masks say of its cells, by the kind of repair. Assumes nothing.
 use mathlib.Core.Bool.{Bool, true, false, not, _&&_, _||_, false≢true}
 use mathlib.Core.Path.{_≡_, refl, sym, ap, subst, _∙_}
-use Prim.Native.Nat.{ℕ, _+_, _*_, _<_, _≤_}
+use Prim.Native.Nat.{ℕ, _+_, _<_, _≤_}
 use native.Mathlib.Omega.{arith}
 use lib.ListN.{getD}
 use borrow.Author.Count.{below-none, below-more}
 use borrow.Author.Tests.{lt-ltb, eq-eqb, not-true}
 use Rattle.facts.specs.Sets.{has, joined, removed}
 use Rattle.facts.proofs.Laws.{has-joined, has-removed}
-use Rattle.table.specs.Sizes.{maxActions, kinds, perKind}
+use Rattle.table.specs.Sizes.{maxActions, kinds}
 use Rattle.table.specs.Strips.{stateAt}
 use Rattle.table.specs.Repairs.{dropDelete, addEffect, dropNeed, chosen}
 use Rattle.table.proofs.FlagLaws.{and-left, and-right, and-both}
@@ -16,7 +16,7 @@ use Rattle.table.proofs.RepairNumbers.{fact-back, kind-back, action-back}
 use Rattle.table.proofs.RunLaws.{stateAt-first, stateAt-next}
 use Rattle.search.specs.declared.Column.{Column}
 use Rattle.search.specs.declared.Choice.{Choice}
-use Rattle.search.specs.Choices.{inChoice, numbersIn, codeKind, codeAction}
+use Rattle.search.specs.Choices.{inChoice, numbersIn, codeOf, codeKind, codeAction}
 use Rattle.search.specs.Columns.{cellsIn, courseIn, ColumnFormed}
 use Rattle.search.specs.Gaps.{NoneBefore, Gap, missing-at, nowhere}
 use Rattle.search.specs.Trying.{maskIn}
@@ -32,11 +32,11 @@ unfolding chosen numbersIn inChoice
 chosen-has f s k a hk ha =
     rw (lt-ltb a maxActions ha, fact-back f k a hk ha, kind-back f k a hk ha, action-back f k a hk ha, eq-eqb f f refl)
 
-pub inChoice-has : (s : Choice) (k a : ℕ) → a < maxActions → inChoice s (perKind * k + a) ≡ has (maskIn k s) a
+pub inChoice-has : (s : Choice) (k a : ℕ) → a < maxActions → inChoice s (codeOf k a) ≡ has (maskIn k s) a
 unfolding inChoice
 inChoice-has s k a ha =
-    let kind : codeKind (perKind * k + a) ≡ k = omega arith in
-    let action : codeAction (perKind * k + a) ≡ a = omega arith in
+    let kind : codeKind (codeOf k a) ≡ k = omega arith in
+    let action : codeAction (codeOf k a) ≡ a = omega arith in
     rw (kind, action)
 
 module _ (col : Column) (s : Choice) (a : ℕ) (ha : a < maxActions) where

@@ -3,7 +3,7 @@
 use mathlib.Core.Bool.{Bool, true, false, not, _&&_, _||_, and-false, false≢true, true≢false}
 use mathlib.Core.Logic.{_⊎_, inl, inr, ⊎-elim}
 use mathlib.Core.Path.{_≡_, refl, sym, ap, subst, _∙_}
-use Prim.Native.Nat.{ℕ, zero, suc, _+_, _-_, _*_, _<_, _≤_, min, max}
+use Prim.Native.Nat.{ℕ, zero, suc, _+_, _-_, _<_, _≤_, min, max}
 use native.Mathlib.Nat.{eq-or-lt-of-le, le-of-suc-le-suc, lt-of-lt-of-le}
 use native.Mathlib.Numerals.{add-one}
 use native.Mathlib.Omega.{arith}
@@ -11,18 +11,18 @@ use lib.Dec.{eqb, ltb}
 use borrow.Author.Tests.{eq-eqb, eqb-true, lt-ltb, not-true}
 use Rattle.facts.specs.Sets.{width, has, joined, only}
 use Rattle.facts.proofs.Laws.{has-empty, has-joined, has-only}
-use Rattle.table.specs.Sizes.{maxActions, kinds, perFact, perKind}
+use Rattle.table.specs.Sizes.{maxActions, kinds, perFact}
 use Rattle.table.specs.Strips.{Cells, Course, stateAt, Right}
 use Rattle.table.specs.Repairs.{byKind, numberOf, dropDelete, addEffect, dropNeed, chosen, repaired, permits}
-use Rattle.table.proofs.FlagLaws.{or-cases, or-left, or-right, and-left, and-right, and-both, is-false}
+use Rattle.table.proofs.FlagLaws.{or-cases, or-left, or-right, and-left, and-right, and-both, is-false, by-order}
 use Rattle.table.proofs.RepairNumbers.{permitted-number}
 use Rattle.table.proofs.RunLaws.{stateAt-first, stateAt-next}
 use Rattle.search.specs.declared.Column.{Column}
 use Rattle.search.specs.declared.Choice.{Choice}
-use Rattle.search.specs.Choices.{inChoice, codeKind, codeAction, codeNumber, numbersIn}
+use Rattle.search.specs.Choices.{inChoice, codeOf, codeKind, codeAction, codeNumber, numbersIn}
 use Rattle.search.specs.Columns.{cellsIn, courseIn, ColumnFormed}
-use Rattle.search.specs.Gaps.{LastDelete, ActionsOf}
-use Rattle.search.specs.Searching.{cellsWith, NeededAt, by-step, by-goal, Missing, Allowed, Conflicts}
+use Rattle.search.specs.Gaps.{LastDelete, Named, need-at, that-delete, add-between, ConflictAt, ActionsOf}
+use Rattle.search.specs.Searching.{cellsWith, NeededAt, by-step, by-goal, Missing, Allowed}
 use Rattle.search.specs.Trying.{maskIn}
 use Rattle.search.proofs.ColumnLaws.{chosen-has, inChoice-has}
 
@@ -40,6 +40,15 @@ pub noDelete-more : (col : Column) (s : Choice) (j i : ℕ) → NoDelete col s j
 noDelete-more col s j i since here k low high = ⊎-elim
     (λ e. subst (λ (p : ℕ). cellsWith col s .deletes (courseIn col .step p) (col .fact) ≡ false) e here)
     (λ l. since k (omega arith) high) (eq-or-lt-of-le low)
+
+-- Looking back has one end.
+last-later : (col : Column) (s : Choice) (j i k : ℕ) → LastDelete col s j i → LastDelete col s j k → k ≤ i
+last-later col s j i k here there = by-order i k
+    (λ h. absurd (true≢false (sym (there .deleted (omega arith)) ∙ here .since (k - 1) (omega arith) (omega (arith, there .within)))))
+    (λ h. h)
+
+last-unique : (col : Column) (s : Choice) (j i k : ℕ) → LastDelete col s j i → LastDelete col s j k → i ≡ k
+last-unique col s j i k here there = omega (arith, last-later col s j i k here there, last-later col s j k i there here)
 
 -- ---- gathering actions
 
@@ -217,6 +226,9 @@ module _ (col : Column) (s : Choice) (j i : ℕ) (formed : ColumnFormed col) (mi
         and-left (repairable (cellsIn col) (col .fact) k (courseIn col .step p))
         (not (chosen (numbersIn (col .fact) s) (col .fact) k (courseIn col .step p))) place-cell
 
+    place-offered : inChoice q (codeOf k (courseIn col .step p)) ≡ true
+    place-offered = inChoice-has q k (courseIn col .step p) place-low ∙ parts k hk .each p low high
+
     place-permitted : permits (cellsIn col) (col .fact) k (courseIn col .step p) ≡ true
     unfolding permits cellsIn
     place-permitted =
@@ -250,12 +262,11 @@ module _ (col : Column) (s : Choice) (j i : ℕ) (formed : ColumnFormed col) (mi
       unrepaired =
           let a = courseIn col .step p in
           let fits : a < maxActions = place-low k p hk low high in
-          let listed = inChoice-has q k a fits ∙ parts k hk .each p low high in
-          let number : numberOf (col .fact) k a ≡ codeNumber (col .fact) (perKind * k + a) = omega arith in
+          let number : numberOf (col .fact) k a ≡ codeNumber (col .fact) (codeOf k a) = omega arith in
           is-false _ (λ h.
           false≢true
-          (sym (none (perKind * k + a) (omega arith))
-          ∙ and-both (inChoice q (perKind * k + a)) _ listed (ap R (sym number) ∙ and-right (ltb a maxActions) (R (numberOf (col .fact) k a)) h)))
+          (sym (none (codeOf k a) (omega arith))
+          ∙ and-both (inChoice q (codeOf k a)) _ (place-offered k p hk low high) (ap R (sym number) ∙ and-right (ltb a maxActions) (R (numberOf (col .fact) k a)) h)))
 
       under : repairable (repaired (cellsIn col) R) (col .fact) k (courseIn col .step p) ≡ true
       under =
@@ -299,14 +310,45 @@ module _ (col : Column) (s : Choice) (j i : ℕ) (formed : ColumnFormed col) (mi
       pick (inl w) = (w .0, w .1, and-left _ _ (w .2), and-right (inChoice q (w .0)) _ (w .2))
       pick (inr none) = absurd (not-right R none right (missing .needed))
 
-  is-conflict : Conflicts col s q
-  is-conflict = record { meets = conflict-meets; fresh = conflict-fresh; allowed = conflict-allowed }
+  -- The conflict's repairs are those that 01 names.
+  offered-named : (code : ℕ) → code < perFact → inChoice q code ≡ true → Named col s j code
+  offered-named code h hq = let w = place-of code h hq in by-kind (codeKind code) refl (w .0) (w .1) (w .2) (w .3)
+    where
+      by-kind : (k : ℕ) → codeKind code ≡ k → (p : ℕ) → lowPlace i j k ≤ p → p < highPlace col i j k → courseIn col .step p ≡ codeAction code
+          → Named col s j code
+      by-kind zero e p low high here =
+          let step : i ≡ p + 1 = omega arith in
+          let same : codeOf dropDelete (courseIn col .step p) ≡ code = omega arith in
+          subst (Named col s j) same (that-delete p (subst (LastDelete col s j) step back))
+      by-kind (suc zero) e p low high here =
+          let same : codeOf addEffect (courseIn col .step p) ≡ code = omega arith in
+          subst (Named col s j) same (add-between i p back (omega arith) high)
+      by-kind (suc (suc zero)) e p low high here =
+          let place : p ≡ j = omega arith in
+          let same : codeOf dropNeed (courseIn col .step p) ≡ code = omega arith in
+          subst (Named col s j) (ap (λ n. codeOf dropNeed (courseIn col .step n)) (sym place) ∙ same) (need-at (omega arith))
+      by-kind (suc (suc (suc k))) e p low high here = absurd (omega arith)
+
+  named-offered : (code : ℕ) → Named col s j code → inChoice q code ≡ true
+  named-offered _ (need-at h) = place-offered dropNeed j (omega arith) (omega arith) (omega arith)
+  named-offered _ (that-delete p last) =
+      let step : p + 1 ≡ i = last-unique col s j (p + 1) i last back in
+      place-offered dropDelete p (omega arith) (omega arith) (omega arith)
+  named-offered _ (add-between k p last low high) =
+      let step : k ≡ i = last-unique col s j k i last back in
+      place-offered addEffect p (omega arith) (omega arith) high
+
+  is-conflict : ConflictAt col s j q
+  is-conflict = record {
+    named = λ code h. (offered-named code h, named-offered code);
+    conflicts = record { meets = conflict-meets; fresh = conflict-fresh; allowed = conflict-allowed };
+  }
 
 -- The sets that the code gathers make a conflict.
 module _ (col : Column) (s : Choice) (j i place end d a n : ℕ) (formed : ColumnFormed col) (missing : Missing col s j)
     (back : LastDelete col s j i) (first : place ≡ i - 1) (last : end ≡ min (j + 1) (col .count)) where
   pub gathered-conflict : ActionsOf col place i d → ActionsOf col place j a → ActionsOf col j end n
-      → Conflicts col s (record { deletes = d; adds = a; needs = n })
+      → ConflictAt col s j (record { deletes = d; adds = a; needs = n })
   gathered-conflict hd ha hn = is-conflict col s j i formed missing back (record { deletes = d; adds = a; needs = n }) parts
     where
       parts : (k : ℕ) → k < kinds → ActionsOf col (lowPlace i j k) (highPlace col i j k) (byKind k d a n)

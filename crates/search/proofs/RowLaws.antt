@@ -9,13 +9,15 @@ use lib.ListN.{length, getD, replicate, length-append}
 use lib.Seq.{set-append-seam, append-snoc}
 use Rattle.table.specs.Answer.{found, over, hopeless}
 use Rattle.table.specs.Lists.{gather, piece}
-use Rattle.table.specs.Sizes.{maxRow, perFact, unused}
+use Rattle.table.specs.Repairs.{numberOf, numbered}
+use Rattle.table.specs.Sizes.{maxFacts, maxRow, perFact, unused}
 use Rattle.table.specs.Tasks.{WellFormed, KeepsFor}
 use Rattle.table.specs.declared.Task.{Task}
 use Rattle.table.proofs.AnswerLaws.{first-same}
 use Rattle.table.proofs.GatherLaws.{gather-none, gather-part, gather-step}
 use Rattle.table.proofs.JoinLaws.{keepsFor-outside}
-use Rattle.search.specs.Choices.{inChoice, listOf, codeNumber}
+use Rattle.table.proofs.RepairNumbers.{numbered-inside}
+use Rattle.search.specs.Choices.{codeKind, codeAction, inChoice, listOf, codeNumber}
 use Rattle.search.specs.Columns.{KeepsIn}
 use Rattle.search.specs.Gaps.{Gap}
 use Rattle.search.specs.Rows.{rowOf, rowWith, rowOver, rowHopeless, RightRow}
@@ -29,6 +31,12 @@ use Rattle.search.proofs.SearchLaws.{gap-right, gap-missing, missing-wr
 use Rattle.search.proofs.ViewLaws.{keeps-in, in-keeps, fullest-right, fullest-keeps}
 
 -- ---- writing a list repair by repair
+
+-- The number that a repair of fact f gets by its kind and action is the one that its code stands for.
+pub code-numbered : (f code : ℕ) → f < maxFacts → code < perFact → numbered f (codeKind code) (codeAction code) ≡ codeNumber f code
+code-numbered f code hf hc =
+    let same : numberOf f (codeKind code) (codeAction code) ≡ codeNumber f code = omega arith in
+    numbered-inside f (codeKind code) (codeAction code) hf (omega arith) (omega arith) ∙ same
 
 -- A row with room takes one repair more at its end.
 pub row-grows : (l : List ℕ) (n : ℕ) → length l < maxRow → rowWith (rowOf (found l)) n ≡ rowOf (found (l ++ (n ∷ [])))

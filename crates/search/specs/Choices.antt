@@ -10,6 +10,9 @@ use Rattle.table.specs.Repairs.{byKind, factOf}
 use Rattle.table.specs.Sizes.{perFact, perKind}
 use Rattle.search.specs.declared.Choice.{Choice}
 
+abbrev pub codeOf : ℕ → ℕ → ℕ
+codeOf k a = perKind * k + a
+
 abbrev pub codeKind : ℕ → ℕ
 codeKind code = code / perKind
 

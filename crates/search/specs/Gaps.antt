@@ -1,13 +1,17 @@
 -- What looking along a run for a missing fact gives, and what looking back from it gives: document 01, "A conflict".
 use mathlib.Core.Bool.{true, false}
+use mathlib.Core.Logic.{_↔_}
 use mathlib.Core.Path.{_≡_}
 use Prim.Native.Nat.{ℕ, _+_, _-_, _<_, _≤_}
 use Rattle.facts.specs.Sets.{has}
+use Rattle.table.specs.Repairs.{dropDelete, addEffect, dropNeed}
+use Rattle.table.specs.Sizes.{perFact}
 use Rattle.table.specs.Strips.{Right}
 use Rattle.search.specs.declared.Column.{Column}
 use Rattle.search.specs.declared.Choice.{Choice}
+use Rattle.search.specs.Choices.{inChoice, codeOf}
 use Rattle.search.specs.Columns.{courseIn}
-use Rattle.search.specs.Searching.{cellsWith, Missing}
+use Rattle.search.specs.Searching.{cellsWith, Missing, Conflicts}
 
 -- The fact is missing at no place before r.
 abbrev pub NoneBefore : Column → Choice → ℕ → Type 0
@@ -25,6 +29,19 @@ pub record LastDelete (col : Column) (s : Choice) (j i : ℕ) : Type 0 where
   pub within : i ≤ j
   pub deleted : 0 < i → cellsWith col s .deletes (courseIn col .step (i - 1)) (col .fact) ≡ true
   pub since : (k : ℕ) → i ≤ k → k < j → cellsWith col s .deletes (courseIn col .step k) (col .fact) ≡ false
+
+-- "one of: drop the need at j (not for a goal), drop that delete, add f at any step from the deleting one up to j-1": a repair
+-- of these, by its code. Step i stands at the place before i; with no deleting step the adds are from the first step on.
+pub data Named (col : Column) (s : Choice) (j : ℕ) : ℕ → Type 0 where
+  need-at : j < col .count → Named col s j (codeOf dropNeed (courseIn col .step j))
+  that-delete : (p : ℕ) → LastDelete col s j (p + 1) → Named col s j (codeOf dropDelete (courseIn col .step p))
+  add-between : (i p : ℕ) → LastDelete col s j i → i ≤ p + 1 → p < j → Named col s j (codeOf addEffect (courseIn col .step p))
+
+-- q is the conflict of the candidate s at place j: its repairs are those named there, no more and no fewer, and "Every
+-- working list that contains the present candidate has one of" them.
+pub record ConflictAt (col : Column) (s : Choice) (j : ℕ) (q : Choice) : Type 0 where
+  pub named : (code : ℕ) → code < perFact → (inChoice q code ≡ true) ↔ Named col s j code
+  pub conflicts : Conflicts col s q
 
 -- m is the set of the actions of the steps at the places from `start` on and before `end`.
 pub record ActionsOf (col : Column) (start end : ℕ) (m : ℕ) : Type 0 where

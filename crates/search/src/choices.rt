@@ -11,10 +11,10 @@ use facts::remove;
 use facts::with_fact;
 use table::repair::Repair;
 ghost use mathlib.Core.Path.{_≡_};
-ghost use Prim.Native.Nat.{ℕ, _-_, _≤_};
-ghost use Rattle.table.specs.Sizes.{perFact, perKind};
+ghost use Prim.Native.Nat.{ℕ, _-_, _*_, _<_, _≤_};
+ghost use Rattle.table.specs.Sizes.{kinds, perFact, perKind};
 ghost use lib.ListN.{length};
-ghost use Rattle.search.specs.Choices.{inChoice, listOf};
+ghost use Rattle.search.specs.Choices.{codeOf, inChoice, listOf};
 ghost use Rattle.search.specs.Choices as choices;
 ghost use Rattle.facts.specs.Sets.{sumBits};
 ghost use Rattle.search.specs.Trying.{withRepair, bothOf, NextAction, NextIn, FirstUnshared, FirstDifference, Earlier, FoundEarlier};
@@ -30,6 +30,14 @@ pub(crate) fn nothing() -> Choice
 }
 
 // A repair of a fact is known by its code: what its number has beside the fact's share.
+fn code_of(kind: usize, action: usize) -> usize
+    requires { ⌜ kind < kinds ⌝ }
+    requires { ⌜ action < perKind ⌝ }
+    ensures { λ r. ⌜ r ≡ codeOf kind action ⌝ }
+{
+    Repair::PER_KIND * kind + action
+}
+
 pub(crate) fn in_choice(s: Choice, code: usize) -> bool
     ensures { λ r. ⌜ r ≡ inChoice s code ⌝ }
 {
@@ -98,11 +106,13 @@ pub(crate) fn size(s: Choice) -> usize
     count_actions(s.deletes) + count_actions(s.adds) + count_actions(s.needs)
 }
 
-// How far `from` is past `base`: how many of a kind's actions a search from there passes.
-fn passed(base: usize, from: usize) -> usize
-    ensures { λ r. ⌜ r ≡ from - base ⌝ }
+// How many of a kind's actions a search from the code `from` on passes.
+fn passed(kind: usize, from: usize) -> usize
+    requires { ⌜ kind < kinds ⌝ }
+    ensures { λ r. ⌜ r ≡ from - perKind * kind ⌝ }
 {
-    if base < from { from - base } else { 0 }
+    let first = code_of(kind, 0);
+    if first < from { from - first } else { 0 }
 }
 
 // The first action of the set from `skip` on; PER_KIND or more where there is none.
@@ -121,13 +131,13 @@ pub(crate) fn next_in(s: Choice, from: usize) -> usize
     if deletes < Repair::PER_KIND {
         return deletes;
     }
-    let adds = next_action(s.adds, passed(Repair::PER_KIND * Repair::ADD_EFFECT, from));
+    let adds = next_action(s.adds, passed(Repair::ADD_EFFECT, from));
     if adds < Repair::PER_KIND {
-        return Repair::PER_KIND * Repair::ADD_EFFECT + adds;
+        return code_of(Repair::ADD_EFFECT, adds);
     }
-    let needs = next_action(s.needs, passed(Repair::PER_KIND * Repair::DROP_NEED, from));
+    let needs = next_action(s.needs, passed(Repair::DROP_NEED, from));
     if needs < Repair::PER_KIND {
-        return Repair::PER_KIND * Repair::DROP_NEED + needs;
+        return code_of(Repair::DROP_NEED, needs);
     }
     Repair::PER_FACT
 }
@@ -149,11 +159,11 @@ pub(crate) fn first_difference(a: Choice, b: Choice) -> usize
     }
     let adds = first_unshared(a.adds, b.adds);
     if adds < Repair::PER_KIND {
-        return Repair::PER_KIND * Repair::ADD_EFFECT + adds;
+        return code_of(Repair::ADD_EFFECT, adds);
     }
     let needs = first_unshared(a.needs, b.needs);
     if needs < Repair::PER_KIND {
-        return Repair::PER_KIND * Repair::DROP_NEED + needs;
+        return code_of(Repair::DROP_NEED, needs);
     }
     Repair::PER_FACT
 }

@@ -6,8 +6,8 @@ use crate::gap;
 ghost use mathlib.Core.Path.{_≡_};
 ghost use Prim.Native.Nat.{_+_, _-_, _≤_, min};
 ghost use Rattle.search.specs.Columns.{ColumnFormed};
-ghost use Rattle.search.specs.Gaps.{LastDelete, ActionsOf};
-ghost use Rattle.search.specs.Searching.{Missing, Conflicts};
+ghost use Rattle.search.specs.Gaps.{LastDelete, ConflictAt, ActionsOf};
+ghost use Rattle.search.specs.Searching.{Missing};
 
 // "Look back from j until the last step that deleted f is met, or the start": the deleting step, counted from 1, or 0
 // for the start.
@@ -62,7 +62,7 @@ pub(crate) fn after_step(j: usize, count: usize) -> usize
 pub(crate) fn conflict(col: Column, s: Choice, j: usize) -> Choice
     requires { ⌜ ColumnFormed col ⌝ }
     requires { ⌜ Missing col s j ⌝ }
-    ensures { λ r. ⌜ Conflicts col s r ⌝ }
+    ensures { λ r. ⌜ ConflictAt col s j r ⌝ }
 {
     let step = look_back(col, s, j);
     let place = place_of(step);

@@ -13,9 +13,9 @@ ghost use mathlib.Core.Path.{_≡_};
 ghost use Prim.Native.Nat.{_<_, _≤_};
 ghost use lib.ListN.{length, getD, replicate};
 ghost use Rattle.table.specs.Answer.{found};
-ghost use Rattle.table.specs.Sizes.{maxFacts, maxRow, unused};
+ghost use Rattle.table.specs.Sizes.{maxFacts, maxRow, perFact, unused};
 ghost use Rattle.table.specs.Tasks.{WellFormed};
-ghost use Rattle.search.specs.Choices.{listOf};
+ghost use Rattle.search.specs.Choices.{codeNumber, listOf};
 ghost use Rattle.search.specs.Rows.{rowOf, rowWith, RightRow};
 
 // First numbers that announce no list.
@@ -52,6 +52,15 @@ fn row_with(row: Filling, number: u16) -> Filling
     next
 }
 
+// The number of the fact's repair that has this code.
+fn number_of(f: usize, code: usize) -> usize
+    requires { ⌜ f < maxFacts ⌝ }
+    requires { ⌜ code < perFact ⌝ }
+    ensures { λ r. ⌜ r ≡ codeNumber f code ⌝ }
+{
+    Repair::new(f, code / Repair::PER_KIND, code % Repair::PER_KIND).number()
+}
+
 // The row of a choice whose list it has room for: its repairs in order.
 fn row_of_choice(f: usize, s: Choice) -> Filling
     requires { ⌜ f < maxFacts ⌝ }
@@ -61,7 +70,7 @@ fn row_of_choice(f: usize, s: Choice) -> Filling
     let mut row = bare_row(0);
     let mut code = choices::next_in(s, 0);
     while code < Repair::PER_FACT {
-        row = row_with(row, (Repair::PER_FACT * f + code) as u16);
+        row = row_with(row, number_of(f, code) as u16);
         code = choices::next_in(s, code + 1);
     }
     row

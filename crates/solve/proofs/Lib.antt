@@ -5,3 +5,4 @@ pub mod ReportLaws
 pub mod FullLists
 pub mod Hopeless
 pub mod SolveLaws
+pub mod Called

@@ -13,7 +13,7 @@ use Rattle.search.specs.Rows.{rowOver, rowHopeless, rowOf, verdictIn, RightRow}
 use Rattle.table.specs.Answer.{Verdict, found, over, hopeless, Within}
 use Rattle.table.specs.Join.{joinVerdicts}
 use Rattle.table.specs.Sizes.{maxFacts, maxRow, rowPlaces, sessionPlaces, unused}
-use Rattle.table.specs.Tasks.{WorksFor, KeepsFor, WellFormed}
+use Rattle.table.specs.Tasks.{cellsOf, WorksFor, KeepsFor, WellFormed, withLimit}
 use Rattle.table.specs.declared.Task.{Task}
 use Rattle.table.proofs.AnswerLaws.{within-unique}
 use Rattle.table.proofs.FlagLaws.{by-order}
@@ -26,11 +26,6 @@ use Rattle.solve.proofs.CopyLaws.{pasted-length, pasted-before, pasted-
 
 pub row-number : (s : List ℕ) (f j : ℕ) → j < rowPlaces → getD (rowAt s f) j 0 ≡ getD s (rowPlaces * f + j) 0
 row-number s f j h = getD-take rowPlaces (drop (rowPlaces * f) s) j 0 h ∙ getD-drop (rowPlaces * f) s j 0
-
-pub row-first : (s : List ℕ) (f : ℕ) → getD (rowAt s f) 0 0 ≡ getD s (rowPlaces * f) 0
-row-first s f =
-    let e : rowPlaces * f + 0 ≡ rowPlaces * f = omega arith in
-    row-number s f 0 (omega arith) ∙ ap (λ (i : ℕ). getD s i 0) e
 
 pub row-length : (s : List ℕ) (f : ℕ) → rowPlaces * f + rowPlaces ≤ length s → length (rowAt s f) ≡ rowPlaces
 row-length s f h = length-take-le rowPlaces (drop (rowPlaces * f) s) (omega (arith, length-drop (rowPlaces * f) s))
@@ -203,3 +198,11 @@ module _ (t : Task) where
       pick g h true same =
           subst (λ (k : ℕ). rowAt after k ≡ rowAt other k) (sym (eqb-true g f same)) (right-unique t f (rowAt after f) (rowAt other f) (p .row) (q .row))
       pick g h false apart = p .others g h (eqb-false g f apart) ∙ sym (q .others g h (eqb-false g f apart))
+
+-- "The rows don't depend on L": rows that are right with one limit are right with every other.
+pub stored-limit : (t : Task) (l : ℕ) (s : List ℕ) → Stored t s → Stored (withLimit t l) s
+unfolding cellsOf
+stored-limit t l s b = record {
+  places = b .places;
+  rows = λ f h. record { verdict = b .rows f h .verdict; within = b .rows f h .within; shown = b .rows f h .shown };
+}

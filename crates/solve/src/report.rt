@@ -11,10 +11,10 @@ use table::refusal;
 use table::refusals;
 ghost use mathlib.Core.List.{_++_};
 ghost use mathlib.Core.Path.{_≡_};
-ghost use Prim.Native.Nat.{_<_, _≤_};
+ghost use Prim.Native.Nat.{_≤_};
 ghost use lib.ListN.{length, getD, drop};
 ghost use Rattle.table.specs.Join.{joinLists, joinVerdicts};
-ghost use Rattle.table.specs.Sizes.{maxFacts, sessionPlaces};
+ghost use Rattle.table.specs.Sizes.{maxFacts};
 ghost use Rattle.table.specs.Tasks.{WellFormed};
 ghost use Rattle.solve.specs.Reports.{tallyOf};
 ghost use Rattle.solve.specs.Solving.{told};
@@ -28,22 +28,26 @@ struct Tally {
     total: usize,
 }
 
-// The first number of a fact's row.
-pub fn first_at(table: &[u16], f: usize) -> usize
-    requires { ⌜ length (now table) ≡ sessionPlaces ⌝ }
-    requires { ⌜ f < maxFacts ⌝ }
-    ensures { λ r. ⌜ r ≡ getD (rowAt (now (table .entry)) f) 0 0 ⌝ }
+// The i-th number of a fact's row; 0 where the table has no such place.
+pub fn number_at(table: &[u16], f: usize, i: usize) -> usize
+    ensures { λ r. ⌜ r ≡ getD (rowAt (now (table .entry)) f) i 0 ⌝ }
 {
-    table[ROW_PLACES * f] as usize
+    let places = table.len();
+    if ROW_PLACES <= i {
+        return 0;
+    }
+    if places / ROW_PLACES < f {
+        return 0;
+    }
+    let at = ROW_PLACES * f + i;
+    if at < places { table[at] as usize } else { 0 }
 }
 
-// How many repairs it announces.
+// How many repairs the row announces.
 pub fn repairs_at(table: &[u16], f: usize) -> usize
-    requires { ⌜ length (now table) ≡ sessionPlaces ⌝ }
-    requires { ⌜ f < maxFacts ⌝ }
     ensures { λ r. ⌜ r ≡ repairsIn (rowAt (now (table .entry)) f) ⌝ }
 {
-    let first = first_at(table, f);
+    let first = number_at(table, f, 0);
     if first <= ROW { first } else { 0 }
 }
 
@@ -56,7 +60,7 @@ fn tally_rows(table: &[u16], facts: usize) -> Tally
     let mut over = false;
     let mut total = 0;
     for f in 0..facts {
-        let first = first_at(table, f);
+        let first = number_at(table, f, 0);
         hopeless = hopeless | (first == row::HOPELESS);
         over = over | (first == row::OVER);
         total = total + repairs_at(table, f);

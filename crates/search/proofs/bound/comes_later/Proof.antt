@@ -53,7 +53,7 @@ loop-again c =
     let at = c .before .before .before .before .before .before .before in
     let a = at .before .args in
     rw (c .joined .ensures, c .before .with-repair .ensures)
-    (shared-more (a .col) (a .s) (at .loop .passed) (at .loop .least) (q .result) (at .loop .n) (first .result) (at .loop .inv) (q .ensures) (first .ensures))
+    (shared-more (a .col) (a .s) (at .loop .passed) (at .loop .least) (q .result) (at .loop .n) (first .result) (at .loop .inv) (q .ensures .conflicts) (first .ensures))
 
 first-gap-requires-2 : tie.Need-first-gap-requires-2 Inv-loop μ-loop
 first-gap-requires-2 c κs = c .before .before .pre

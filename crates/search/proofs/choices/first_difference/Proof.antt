@@ -1,5 +1,5 @@
 -- `search::choices::first_difference` looks at the kinds in turn: each that is passed has no difference.
-use Prim.Native.Nat.{_+_, _*_}
+use Prim.Native.Nat.{_*_}
 use native.Mathlib.Omega.{arith}
 use borrow.Author.Needs.{needs}
 use Rattle.table.specs.Repairs.{dropDelete, addEffect, dropNeed}
@@ -20,11 +20,8 @@ returns c =
 first-unshared-requires-2 : tie.Need-first-unshared-requires-2
 first-unshared-requires-2 c κs = search needs
 
-mul-result : tie.Need-mul-result
-mul-result c = search needs
-
-add-result : tie.Need-add-result
-add-result c = search needs
+code-of-requires : tie.Need-code-of-requires
+code-of-requires c κs = search needs
 
 -- The sets agree on the deletes, once these are passed.
 deletes-same : (c : tie.Else1) → SameBelow (c .before .before .args .a) (c .before .before .args .b) (perKind * addEffect)
@@ -35,19 +32,17 @@ deletes-same c =
 
 returns-2 : tie.Need-returns-2
 returns-2 c =
-    let args = c .before .before .before .before .args in
-    let adds = c .before .first-unshared2 in
+    let d = c .before in
+    let args = d .before .before .before .before .args in
+    let adds = d .before .first-unshared2 in
     differs-here (args .a) (args .b) addEffect (adds .result) (omega arith) (adds .ensures)
-    (perKind * addEffect + adds .result) (omega arith) (deletes-same (c .before .before)) (c .if2 .taken)
+    (c .code-of .result) (c .code-of .ensures) (deletes-same (d .before .before)) (d .if2 .taken)
 
 first-unshared-requires-3 : tie.Need-first-unshared-requires-3
 first-unshared-requires-3 c κs = search needs
 
-mul-result-2 : tie.Need-mul-result-2
-mul-result-2 c = search needs
-
-add-result-2 : tie.Need-add-result-2
-add-result-2 c = search needs
+code-of-requires-2 : tie.Need-code-of-requires-2
+code-of-requires-2 c κs = search needs
 
 -- And on the adds, once those are passed too.
 adds-same : (c : tie.Else2) → SameBelow (c .before .before .before .before .args .a) (c .before .before .before .before .args .b) (perKind * dropNeed)
@@ -58,10 +53,11 @@ adds-same c =
 
 returns-3 : tie.Need-returns-3
 returns-3 c =
-    let args = c .before .before .before .before .before .before .args in
-    let needs = c .before .first-unshared3 in
+    let d = c .before in
+    let args = d .before .before .before .before .before .before .args in
+    let needs = d .before .first-unshared3 in
     differs-here (args .a) (args .b) dropNeed (needs .result) (omega arith) (needs .ensures)
-    (perKind * dropNeed + needs .result) (omega arith) (adds-same (c .before .before)) (c .if3 .taken)
+    (c .code-of2 .result) (c .code-of2 .ensures) (adds-same (d .before .before)) (d .if3 .taken)
 
 returns-4 : tie.Need-returns-4
 returns-4 c =
@@ -80,11 +76,9 @@ first-difference-spec =
     first-unshared-requires
     returns
     first-unshared-requires-2
-    mul-result
-    add-result
+    code-of-requires
     returns-2
     first-unshared-requires-3
-    mul-result-2
-    add-result-2
+    code-of-requires-2
     returns-3
     returns-4)

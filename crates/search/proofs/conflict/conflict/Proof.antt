@@ -13,11 +13,14 @@ place-of-requires c κs = tt
 
 actions-between-requires : tie.Need-actions-between-requires
 actions-between-requires c κs =
-    (c .before .before .pre .0, le-trans (c .before .look-back .ensures .within) (missing-within (c .before .before .args .col) (c .before .before .args .s) (c .before .before .args .j) (c .before .before .pre .1)))
+    let back = c .before in
+    let at = back .before in
+    (at .pre .0, le-trans (back .look-back .ensures .within) (missing-within (at .args .col) (at .args .s) (at .args .j) (at .pre .1)))
 
 actions-between-requires-2 : tie.Need-actions-between-requires-2
 actions-between-requires-2 c κs =
-    (c .before .before .before .pre .0, missing-within (c .before .before .before .args .col) (c .before .before .before .args .s) (c .before .before .before .args .j) (c .before .before .before .pre .1))
+    let at = c .before .before .before in
+    (at .pre .0, missing-within (at .args .col) (at .args .s) (at .args .j) (at .pre .1))
 
 after-step-requires : tie.Need-after-step-requires
 after-step-requires c κs = tt
@@ -27,10 +30,17 @@ actions-between-requires-3 c κs = search needs
 
 returns : tie.Need-returns
 returns c =
-    gathered-conflict (c .before .before .before .before .before .before .args .col) (c .before .before .before .before .before .before .args .s) (c .before .before .before .before .before .before .args .j) (c .before .before .before .before .before .look-back .result)
-    (c .before .before .before .before .place-of .result) (c .before .after-step .result) (c .before .before .before .actions-between .result) (c .before .before .actions-between2 .result)
-    (c .actions-between3 .result) (c .before .before .before .before .before .before .pre .0) (c .before .before .before .before .before .before .pre .1) (c .before .before .before .before .before .look-back .ensures) (c .before .before .before .before .place-of .ensures)
-    (c .before .after-step .ensures) (c .before .before .before .actions-between .ensures) (c .before .before .actions-between2 .ensures) (c .actions-between3 .ensures)
+    let needs = c in
+    let last = needs .before in
+    let adds = last .before in
+    let deletes = adds .before in
+    let place = deletes .before in
+    let back = place .before in
+    let at = back .before in
+    gathered-conflict (at .args .col) (at .args .s) (at .args .j) (back .look-back .result) (place .place-of .result) (last .after-step .result)
+    (deletes .actions-between .result) (adds .actions-between2 .result) (needs .actions-between3 .result) (at .pre .0) (at .pre .1)
+    (back .look-back .ensures) (place .place-of .ensures) (last .after-step .ensures) (deletes .actions-between .ensures)
+    (adds .actions-between2 .ensures) (needs .actions-between3 .ensures)
 
 pub conflict-spec : {M : Type 1} → statement M
 conflict-spec =

@@ -1,11 +1,12 @@
 -- `search::row::row_of_choice` meets its contract: the row has the chosen codes passed. Assumes nothing.
 use mathlib.Core.Bool.{true}
-use mathlib.Core.Path.{_≡_}
+use mathlib.Core.Path.{_≡_, ap, _∙_}
 use Prim.Native.Nat.{_<_, _≤_, _-_}
 use native.Mathlib.Omega.{arith}
 use borrow.Author.Needs.{needs}
 use Rattle.table.specs.Sizes.{perFact}
 use Rattle.search.specs.Choices.{inChoice}
+use Rattle.search.specs.Rows.{rowWith}
 use Rattle.search.proofs.RowLaws.{rowBelow, below-first, below-fits, below-more, below-end}
 use Rattle.search.proofs.row.row_of_choice.Statement.{statement}
 use Rattle.search.proofs.row.row_of_choice.Tie as tie
@@ -30,21 +31,18 @@ loop-holds c =
       below-first (a .f) (a .s) (c .before .bare-row .result .places) (c .next-in .result) (c .before .bare-row .ensures) (c .next-in .ensures),
     )
 
-mul-row-with : tie.Need-mul-row-with Inv-loop μ-loop
-mul-row-with c = search needs
-
-add-row-with : tie.Need-add-row-with Inv-loop μ-loop
-add-row-with c = search needs
+number-of-requires : tie.Need-number-of-requires Inv-loop μ-loop
+number-of-requires c κs = search needs
 
 cast-row-with : tie.Need-cast-row-with Inv-loop μ-loop
 cast-row-with c = search needs
 
 row-with-requires : tie.Need-row-with-requires Inv-loop μ-loop
 row-with-requires c κs =
-    let at = c .before .before .before .before in
-    let here = c .before .loop in
-    below-fits (at .args .f) (at .args .s) (here .code) (here .row .places) (at .pre .1) (c .loop-test .taken) (here .inv .2)
-    (here .inv .1 (c .loop-test .taken))
+    let here = c .before .before .loop in
+    let at = c .before .before .before .before .before in
+    below-fits (at .args .f) (at .args .s) (here .code) (here .row .places) (at .pre .1) (c .before .loop-test .taken) (here .inv .2)
+    (here .inv .1 (c .before .loop-test .taken))
 
 add-next-in : tie.Need-add-next-in Inv-loop μ-loop
 add-next-in c = omega arith
@@ -57,14 +55,16 @@ loop-less c = omega (arith, c .next-in2 .ensures .after)
 
 loop-again : tie.Need-loop-again Inv-loop μ-loop
 loop-again c =
-    let at = c .before .before .before .before .before .before in
-    let here = c .before .before .before .loop in
-    let below = c .before .before .loop-test .taken in
+    let number = c .before .before .number-of in
+    let here = c .before .before .before .before .loop in
+    let at = c .before .before .before .before .before .before .before in
+    let below = c .before .before .before .loop-test .taken in
     let fits = below-fits (at .args .f) (at .args .s) (here .code) (here .row .places) (at .pre .1) below (here .inv .2) (here .inv .1 below) in (
       c .next-in2 .ensures .within,
       c .next-in2 .ensures .present,
       below-more (at .args .f) (at .args .s) (here .code) (c .next-in2 .result) (here .row .places) (c .before .row-with .result .places)
-          (here .inv .2) (here .inv .1 below) fits (c .before .row-with .ensures) (c .next-in2 .ensures),
+          (here .inv .2) (here .inv .1 below) fits (c .before .row-with .ensures ∙ ap (rowWith (here .row .places)) (number .ensures))
+          (c .next-in2 .ensures),
     )
 
 returns : tie.Need-returns Inv-loop μ-loop
@@ -81,8 +81,7 @@ row-of-choice-spec =
     bare-row-requires
     next-in-requires
     loop-holds
-    mul-row-with
-    add-row-with
+    number-of-requires
     cast-row-with
     row-with-requires
     add-next-in

@@ -193,7 +193,7 @@ test-branch-requires t c κs =
     let a = c .before .before .before .before .before .before .args in
     let p = c .before .before .before .before .before .before .pre in
     let less : 2 * a .left < t = omega (arith, p .0) in
-    (less, (p .1 .0, (p .1 .1, (c .conflict .ensures, pos-of-ne-zero (c .before .before .before .if3 .left)))))
+    (less, (p .1 .0, (p .1 .1, (c .conflict .ensures .conflicts, pos-of-ne-zero (c .before .before .before .if3 .left)))))
 
 test-returns-5 : (t : ℕ) → test-lts.Need-returns-5 (T t) (test-at t) test.Post
 test-returns-5 t c = c .branch .ensures

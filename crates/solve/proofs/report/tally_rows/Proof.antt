@@ -1,5 +1,6 @@
 -- `solve::report::tally_rows` meets its contract: before turn f the rows below f are tallied. Assumes nothing.
 use Prim.Native.Nat.{_-_}
+use borrow.Author.Needs.{needs}
 use native.Mathlib.Omega.{arith}
 use Rattle.solve.specs.Tables.{rowAt}
 use Rattle.solve.proofs.ReportLaws.{repairs-low, Tallied, tallied-none, tallied-more, tallied-end}
@@ -15,11 +16,11 @@ abbrev μ-loop : tie.MeasureT-loop
 loop-holds : tie.Need-loop-holds Inv-loop μ-loop
 loop-holds c = tallied-none (c .before .args .table .now) (c .before .args .facts)
 
-first-at-requires : tie.Need-first-at-requires Inv-loop μ-loop
-first-at-requires c κs = (c .before .before .before .pre .1 .places, omega arith)
+number-at-requires : tie.Need-number-at-requires Inv-loop μ-loop
+number-at-requires c κs = search needs
 
 repairs-at-requires : tie.Need-repairs-at-requires Inv-loop μ-loop
-repairs-at-requires c κs = (c .before .before .before .before .pre .1 .places, omega arith)
+repairs-at-requires c κs = search needs
 
 add-total : tie.Need-add-total Inv-loop μ-loop
 add-total c =
@@ -37,7 +38,7 @@ loop-again c =
     let d = c .before .before .before in
     let a = d .before .before in
     tallied-more (a .args .table .now) (a .args .facts) (a .pre .0) (a .pre .1) (d .loop .hopeless) (d .loop .over) (d .loop .total)
-    (d .loop .f) (c .before .first-at .result) (c .repairs-at .result) (omega arith) (c .before .first-at .ensures) (c .repairs-at .ensures)
+    (d .loop .f) (c .before .number-at .result) (c .repairs-at .result) (omega arith) (c .before .number-at .ensures) (c .repairs-at .ensures)
     (d .loop .inv)
 
 returns : tie.Need-returns Inv-loop μ-loop
@@ -49,4 +50,4 @@ returns c =
 pub tally-rows-spec : {M : Type 1} → statement M
 tally-rows-spec =
     tie.close
-    (tie.spec Inv-loop μ-loop loop-holds first-at-requires repairs-at-requires add-total add-f loop-less loop-again returns)
+    (tie.spec Inv-loop μ-loop loop-holds number-at-requires repairs-at-requires add-total add-f loop-less loop-again returns)

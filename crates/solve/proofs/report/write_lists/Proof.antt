@@ -1,5 +1,6 @@
 -- `solve::report::write_lists` meets its contract: before turn f the lists of the rows below f are in the room. Assumes nothing.
 use Prim.Native.Nat.{_+_, _-_, _≤_}
+use borrow.Author.Needs.{needs}
 use native.Mathlib.Omega.{arith}
 use lib.ListN.{length}
 use Rattle.solve.specs.Tables.{rowAt, repairsIn}
@@ -26,7 +27,7 @@ next-fits c =
     (c .before .loop .at) (c .before .loop .f) (omega arith) (c .before .loop .inv)
 
 repairs-at-requires : tie.Need-repairs-at-requires Inv-loop μ-loop
-repairs-at-requires c κs = (c .before .before .before .before .pre .1 .0 .places, omega arith)
+repairs-at-requires c κs = search needs
 
 mul-copy : tie.Need-mul-copy Inv-loop μ-loop
 mul-copy c = omega arith
