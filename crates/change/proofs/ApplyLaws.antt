@@ -8,10 +8,9 @@ use native.Mathlib.Nat.{le-refl}
 use native.Mathlib.Omega.{arith}
 use lib.Dec.{eqb, ltb}
 use lib.ListN.{length, getD, take}
-use lib.Seq.{take-suc, take-length, ext-getD}
+use lib.Seq.{take-suc, take-length}
 use borrow.Author.Tests.{ltb-true, lt-ltb, le-ltb, eqb-true, eqb-false, eq-eqb}
 use Rattle.facts.specs.Sets.{width, has}
-use Rattle.facts.proofs.Laws.{same-sets}
 use Rattle.table.proofs.Formation.{formed-well}
 use Rattle.table.proofs.FlagLaws.{same-flag, both, and-both}
 use Rattle.table.proofs.OrderLaws.{isIn-append}
@@ -30,8 +29,8 @@ use Rattle.table.specs.declared.Task.{Task}
 use Rattle.change.specs.Applying.{firstWrong, applyRefusal, AppliedTo, Applies}
 use Rattle.change.specs.declared.Applied.{Applied}
 use Rattle.change.specs.Kinds.{numberSet, oneByOne}
-use Rattle.change.proofs.KindLaws.{kind-cases, setsOf, mask-sets, Long, shaped-long, long-shaped, long-kindSet, cell-kindSet, sizes-kindSet}
-use Rattle.change.proofs.SameLaws.{outside-well}
+use Rattle.change.proofs.KindLaws.{kind-cases, Long, shaped-long, long-shaped, long-kindSet, cell-kindSet, sizes-kindSet}
+use Rattle.change.proofs.SameLaws.{outside-well, same-table}
 use Rattle.change.proofs.MemberLaws.{getD-isIn}
 use Rattle.change.proofs.PermittedLaws.{firstWrong-le, permitted-list}
 
@@ -157,27 +156,13 @@ made-applied t l s fits =
 
 -- ---- the task with a list applied is the only one, and stays well formed
 
-applied-sets : (t : Task) (l : List ℕ) (u v : Task) → AppliedTo t l u → AppliedTo t l v → (k : ℕ) → k < kinds → setsOf (u .table) k ≡ setsOf (v .table) k
-applied-sets t l u v d e k hk =
-    let long = shaped-long u (d .shaped) in
-    ext-getD 0 (setsOf (u .table) k) (setsOf (v .table) k) (long k hk ∙ sym (shaped-long v (e .shaped) k hk)) (λ a h.
-    sym (mask-sets (u .table) a k hk) ∙
-    same-sets (maskOf (u .table) k a) (maskOf (v .table) k a) (λ f. applied-cell t l u d a f k hk ∙ sym (applied-cell t l v e a f k hk)) ∙
-    mask-sets (v .table) a k hk)
-
 pub applied-unique : (t : Task) (l : List ℕ) (u v : Task) → AppliedTo t l u → AppliedTo t l v → u ≡ v
 applied-unique t l u v d e =
-    let needs : u .table .needs ≡ v .table .needs = applied-sets t l u v d e dropNeed (omega arith) in
-    let adds : u .table .adds ≡ v .table .adds = applied-sets t l u v d e addEffect (omega arith) in
-    let deletes : u .table .deletes ≡ v .table .deletes = applied-sets t l u v d e dropDelete (omega arith) in
-    let facts = d .facts ∙ sym (e .facts) in
-    let actions = d .actions ∙ sym (e .actions) in
-    let limit = d .limit ∙ sym (e .limit) in
+    let table =
+    same-table u v (d .shaped) (e .shaped) (λ k a f hk. applied-cell t l u d a f k hk ∙ sym (applied-cell t l v e a f k hk))
+    (d .facts ∙ sym (e .facts)) (d .actions ∙ sym (e .actions)) (d .limit ∙ sym (e .limit)) in
     let run = d .run ∙ sym (e .run) in
-    λ i. record {
-      table = record { facts = facts i; actions = actions i; limit = limit i; needs = needs i; adds = adds i; deletes = deletes i };
-      run = run i;
-    }
+    λ i. record { table = table i; run = run i }
 
 -- a list that is permitted chooses no cell outside the task
 chosen-outside : (c : Cells) (l : List ℕ) → Permitted c l → (g k a : ℕ) → k < kinds → (g < c .facts → a < c .actions → ⊥) → chosen (isIn l) g k a ≡ false

@@ -1,161 +1,225 @@
--- Laws of an edit: it sets the named cell, touches that cell's fact alone, and keeps the task well formed. Assumes nothing.
-use mathlib.Core.Bool.{Bool, true, false, _&&_, cond}
+-- Laws of an edit: the code's task has exactly the named cell set, no other task has, and what follows for a task with one cell set: it
+-- stays well formed, and every other fact keeps its lists. Assumes nothing.
+use mathlib.Core.Bool.{Bool, true, false, _&&_, cond, false≢true}
 use mathlib.Core.List.{List}
-use mathlib.Core.Path.{_≡_, refl, ap, _∙_}
+use mathlib.Core.Path.{_≡_, refl, sym, ap, _∙_}
 use Prim.Native.Nat.{ℕ, _<_, _≤_}
 use native.Mathlib.Omega.{arith}
 use lib.Dec.{eqb, ltb}
 use borrow.Author.Tests.{ltb-true, eqb-true, eq-eqb, ne-eqb}
 use Rattle.facts.specs.Sets.{width, has}
+use Rattle.facts.proofs.Laws.{same-sets}
 use Rattle.table.proofs.FlagLaws.{both, and-both}
-use Rattle.table.specs.Repairs.{dropDelete, addEffect, dropNeed}
+use Rattle.table.specs.Repairs.{dropDelete, addEffect, dropNeed, byKind}
 use Rattle.table.specs.Sizes.{kinds}
-use Rattle.table.specs.Tasks.{cellsOf, courseOf, maskOf, KeepsFor, Shaped, WellFormed}
-use Rattle.table.specs.declared.Task.{Task}
-use Rattle.change.specs.Editing.{cellSet, edited, cellFact, cellInside}
 use Rattle.table.specs.Setting.{setFact}
-use Rattle.change.specs.Kinds.{kindSet, cellValue}
+use Rattle.table.specs.Tasks.{cellsOf, courseOf, maskOf, KeepsFor, WellFormed}
+use Rattle.table.specs.declared.Task.{Task}
+use Rattle.change.specs.Editing.{cellSet, edited, cellFact, cellInside, cellValue, EditedTo}
+use Rattle.change.specs.Kinds.{kindSet}
 use Rattle.change.specs.declared.Cell.{Cell}
 use Rattle.change.specs.declared.Cell.the-variants.{Need, Add, Delete, Start, Goal}
 use Rattle.change.specs.declared.Edit.{Edit}
-use Rattle.change.proofs.KindLaws.{shaped-long, long-shaped, long-kindSet, cell-kindSet, sizes-kindSet, has-setFact}
-use Rattle.change.proofs.SameLaws.{SameSizes, SameFact, SameOutside, outside-well, same-back, keeps-same}
+use Rattle.change.proofs.KindLaws.{kind-cases, shaped-long, long-shaped, long-kindSet, cell-kindSet, sizes-kindSet, has-setFact}
+use Rattle.change.proofs.SameLaws.{SameSizes, SameFact, same-table, outside-well, same-back, keeps-same}
 
--- ---- a need, an add or a delete that is set: once over the kind
+-- ---- a need, an add or a delete: once over the kind
 
-module _ (t : Task) (w : WellFormed t) (a f : ℕ) (p : Bool) (k : ℕ) (hk : k < kinds) (inside : (ltb a (t .table .actions) && ltb f (t .table .facts)) ≡ true) where
-  abbrev kindEdited : Task
-  kindEdited = record { table = kindSet (t .table) k a f p; run = t .run }
+-- the cell of a kind of repair
+abbrev kindCell : ℕ → ℕ → ℕ → Cell
+kindCell k a f = byKind {A = Cell} k (Delete a f) (Add a f) (Need a f)
 
-  action-in : a < t .table .actions
-  action-in = ltb-true a (t .table .actions) (both (ltb a (t .table .actions)) (ltb f (t .table .facts)) inside .0)
+kind-cell : (t : Task) (a f k : ℕ) → k < kinds → cellValue t (kindCell k a f) ≡ has (maskOf (t .table) k a) f
+unfolding cellValue cellsOf
+kind-cell t a f = kind-cases (λ k. cellValue t (kindCell k a f) ≡ has (maskOf (t .table) k a) f) refl refl refl
 
-  fact-in : f < t .table .facts
-  fact-in = ltb-true f (t .table .facts) (both (ltb a (t .table .actions)) (ltb f (t .table .facts)) inside .1)
+kind-fact : (a f k : ℕ) → k < kinds → f ≡ cellFact (kindCell k a f)
+kind-fact a f = kind-cases (λ k. f ≡ cellFact (kindCell k a f)) refl refl refl
 
-  kind-value : (j b g : ℕ) → j < kinds
-      → has (maskOf (kindSet (t .table) k a f p) j b) g ≡ cond (eqb j k && eqb b a && eqb g f) p (has (maskOf (t .table) j b) g)
-  kind-value =
-      cell-kindSet (t .table) a f p (shaped-long t (w .shaped)) (omega (arith, action-in, w .actions-high))
-      (omega (arith, fact-in, w .facts-high)) k hk
+kind-inside : (t : Task) (a f k : ℕ) → k < kinds → (ltb a (t .table .actions) && ltb f (t .table .facts)) ≡ cellInside t (kindCell k a f)
+unfolding cellInside
+kind-inside t a f = kind-cases (λ k. (ltb a (t .table .actions) && ltb f (t .table .facts)) ≡ cellInside t (kindCell k a f)) refl refl refl
 
-  kind-sets : has (maskOf (kindSet (t .table) k a f p) k a) f ≡ p
-  kind-sets =
-      kind-value k a f hk ∙
-      ap (λ (b : Bool). cond b p (has (maskOf (t .table) k a) f)) (and-both _ _ (and-both _ _ (eq-eqb k k refl) (eq-eqb a a refl)) (eq-eqb f f refl))
-
-  -- a cell of another fact or another action is as it was
-  kind-keeps : (j b g : ℕ) → j < kinds → (g ≡ f → b ≡ a → ⊥) → has (maskOf (kindSet (t .table) k a f p) j b) g ≡ has (maskOf (t .table) j b) g
-  kind-keeps j b g hj other = kind-value j b g hj ∙ pick (eqb j k) (eqb b a) refl (eqb g f) refl
-    where
-      pick : (x y : Bool) → eqb b a ≡ y → (z : Bool) → eqb g f ≡ z
-          → cond (x && y && z) p (has (maskOf (t .table) j b) g) ≡ has (maskOf (t .table) j b) g
-      pick true true e true d = absurd (other (eqb-true g f d) (eqb-true b a e))
-      pick true true e false d = refl
-      pick true false e z d = refl
-      pick false y e z d = refl
-
-  kind-sizes : SameSizes t kindEdited
-  kind-sizes =
-      let same = sizes-kindSet (t .table) a f p k hk in
-      record { facts = same .0; actions = same .1; limit = same .2; count = refl; steps = refl }
-
-  kind-elsewhere : (g : ℕ) → (g ≡ f → ⊥) → SameFact g t kindEdited
-  kind-elsewhere g other =
-      record { sizes = kind-sizes; cell = λ j b hj. kind-keeps j b g hj (λ e _. other e); start = refl; goal = refl }
-
-  kind-outside : SameOutside t kindEdited
-  kind-outside = record {
-    shaped = long-shaped (kindSet (t .table) k a f p) t (long-kindSet (t .table) a f p (shaped-long t (w .shaped)) k hk) (w .shaped);
-    sizes = kind-sizes;
-    cell = λ j b g hj out. kind-keeps j b g hj (λ e d. out (omega (arith, fact-in)) (omega (arith, action-in)));
-    start = λ g h. refl;
-    goal = λ g h. refl;
-  }
-
--- ---- a start or goal fact that is set
-
--- a set with one fact set is as it was at every other
-setFact-keeps : (m f : ℕ) (p : Bool) (g : ℕ) → f < width → (g ≡ f → ⊥) → has (setFact m f p) g ≡ has m g
-setFact-keeps m f p g h other = has-setFact m f p g h ∙ ap (λ (b : Bool). cond b p (has m g)) (ne-eqb g f other)
-
-setFact-sets : (m f : ℕ) (p : Bool) → f < width → has (setFact m f p) f ≡ p
-setFact-sets m f p h = has-setFact m f p f h ∙ ap (λ (b : Bool). cond b p (has m f)) (eq-eqb f f refl)
-
--- the task with other start and goal facts
-abbrev runSet : Task → ℕ → ℕ → Task
-runSet t m n = record { table = t .table; run = record { start = m; goal = n; count = t .run .count; steps = t .run .steps } }
-
-run-sizes : (t : Task) (m n : ℕ) → SameSizes t (runSet t m n)
-run-sizes t m n = record { facts = refl; actions = refl; limit = refl; count = refl; steps = refl }
-
-run-elsewhere : (t : Task) (m n g : ℕ) → has m g ≡ has (t .run .start) g → has n g ≡ has (t .run .goal) g → SameFact g t (runSet t m n)
-run-elsewhere t m n g start goal = record { sizes = run-sizes t m n; cell = λ k a hk. refl; start = start; goal = goal }
-
-run-outside : (t : Task) (m n : ℕ) → Shaped t → ((g : ℕ) → t .table .facts ≤ g → has m g ≡ has (t .run .start) g)
-    → ((g : ℕ) → t .table .facts ≤ g → has n g ≡ has (t .run .goal) g) → SameOutside t (runSet t m n)
-run-outside t m n s start goal = record {
-  shaped = record { needs = s .needs; adds = s .adds; deletes = s .deletes; steps = s .steps };
-  sizes = run-sizes t m n;
-  cell = λ k a g hk out. refl;
-  start = start;
-  goal = goal;
-}
-
--- ---- an edit, whatever the cell
+-- ---- the code's task has the named cell set, and every other as it was
 
 module _ (t : Task) (w : WellFormed t) where
-  bounded : (f : ℕ) → ltb f (t .table .facts) ≡ true → f < width
-  bounded f h = omega (arith, ltb-true f (t .table .facts) h, w .facts-high)
+  module _ (a f : ℕ) (p : Bool) (inside : (ltb a (t .table .actions) && ltb f (t .table .facts)) ≡ true) (k : ℕ) (hk : k < kinds) where
+    abbrev kindEdited : Task
+    kindEdited = record { table = kindSet (t .table) k a f p; run = t .run }
 
-  -- a fact outside is not the one that an edit inside names
-  outside-other : (f g : ℕ) → ltb f (t .table .facts) ≡ true → t .table .facts ≤ g → g ≡ f → ⊥
-  outside-other f g h l e = omega (arith, ltb-true f (t .table .facts) h)
+    kind-value : (j b g : ℕ) → j < kinds
+        → has (maskOf (kindSet (t .table) k a f p) j b) g ≡ cond (eqb j k && eqb b a && eqb g f) p (has (maskOf (t .table) j b) g)
+    kind-value =
+        let low = both (ltb a (t .table .actions)) (ltb f (t .table .facts)) inside in
+        cell-kindSet (t .table) a f p (shaped-long t (w .shaped)) (omega (arith, ltb-true a (t .table .actions) (low .0), w .actions-high))
+        (omega (arith, ltb-true f (t .table .facts) (low .1), w .facts-high)) k hk
 
-  pub cell-sets : (c : Cell) (p : Bool) → cellInside t c ≡ true → cellValue (cellSet t c p) c ≡ p
-  unfolding cellSet cellInside cellValue kindSet cellsOf courseOf
-  cell-sets (Need a f) p h = kind-sets t w a f p dropNeed (omega arith) h
-  cell-sets (Add a f) p h = kind-sets t w a f p addEffect (omega arith) h
-  cell-sets (Delete a f) p h = kind-sets t w a f p dropDelete (omega arith) h
-  cell-sets (Start f) p h = setFact-sets (t .run .start) f p (bounded f h)
-  cell-sets (Goal f) p h = setFact-sets (t .run .goal) f p (bounded f h)
+    kind-sets : cellValue kindEdited (kindCell k a f) ≡ p
+    kind-sets =
+        kind-cell kindEdited a f k hk ∙ kind-value k a f hk ∙
+        ap (λ (b : Bool). cond b p (has (maskOf (t .table) k a) f)) (and-both _ _ (and-both _ _ (eq-eqb k k refl) (eq-eqb a a refl)) (eq-eqb f f refl))
 
-  pub cell-elsewhere : (c : Cell) (p : Bool) → cellInside t c ≡ true → (g : ℕ) → (g ≡ cellFact c → ⊥) → SameFact g t (cellSet t c p)
+    kind-keeps : (j b g : ℕ) → j < kinds → (kindCell j b g ≡ kindCell k a f → ⊥)
+        → has (maskOf (kindSet (t .table) k a f p) j b) g ≡ has (maskOf (t .table) j b) g
+    kind-keeps j b g hj other = kind-value j b g hj ∙ pick (eqb j k) refl (eqb b a) refl (eqb g f) refl
+      where
+        pick : (x : Bool) → eqb j k ≡ x → (y : Bool) → eqb b a ≡ y → (z : Bool) → eqb g f ≡ z
+            → cond (x && y && z) p (has (maskOf (t .table) j b) g) ≡ has (maskOf (t .table) j b) g
+        pick true ex true ey true ez =
+            absurd (other (λ i. kindCell (eqb-true j k ex i) (eqb-true b a ey i) (eqb-true g f ez i)))
+        pick true ex true ey false ez = refl
+        pick true ex false ey z ez = refl
+        pick false ex y ey z ez = refl
+
+    kind-others : (c : Cell) → (c ≡ kindCell k a f → ⊥) → cellValue kindEdited c ≡ cellValue t c
+    unfolding cellValue cellsOf courseOf
+    kind-others (Need b g) other = kind-keeps dropNeed b g (omega arith) other
+    kind-others (Add b g) other = kind-keeps addEffect b g (omega arith) other
+    kind-others (Delete b g) other = kind-keeps dropDelete b g (omega arith) other
+    kind-others (Start g) other = refl
+    kind-others (Goal g) other = refl
+
+    kind-exactly : EditedTo t (record { cell = kindCell k a f; present = p }) kindEdited
+    kind-exactly =
+        let same = sizes-kindSet (t .table) a f p k hk in
+        record {
+          shaped = long-shaped (kindSet (t .table) k a f p) t (long-kindSet (t .table) a f p (shaped-long t (w .shaped)) k hk) (w .shaped);
+          facts = same .0;
+          actions = same .1;
+          limit = same .2;
+          count = refl;
+          steps = refl;
+          named = kind-sets;
+          others = kind-others;
+        }
+
+  -- a start or goal fact
+  abbrev runSet : ℕ → ℕ → Task
+  runSet m n = record { table = t .table; run = record { start = m; goal = n; count = t .run .count; steps = t .run .steps } }
+
+  run-exactly : (c : Cell) (p : Bool) (m n : ℕ) → cellValue (runSet m n) c ≡ p
+      → ((d : Cell) → (d ≡ c → ⊥) → cellValue (runSet m n) d ≡ cellValue t d) → EditedTo t (record { cell = c; present = p }) (runSet m n)
+  run-exactly c p m n named others = record {
+    shaped = record { needs = w .shaped .needs; adds = w .shaped .adds; deletes = w .shaped .deletes; steps = w .shaped .steps };
+    facts = refl;
+    actions = refl;
+    limit = refl;
+    count = refl;
+    steps = refl;
+    named = named;
+    others = others;
+  }
+
+  module _ (f : ℕ) (p : Bool) (inside : ltb f (t .table .facts) ≡ true) where
+    low : f < width
+    low = omega (arith, ltb-true f (t .table .facts) inside, w .facts-high)
+
+    fact-sets : (m : ℕ) → has (setFact m f p) f ≡ p
+    fact-sets m = has-setFact m f p f low ∙ ap (λ (b : Bool). cond b p (has m f)) (eq-eqb f f refl)
+
+    fact-keeps : (m g : ℕ) → (g ≡ f → ⊥) → has (setFact m f p) g ≡ has m g
+    fact-keeps m g other = has-setFact m f p g low ∙ ap (λ (b : Bool). cond b p (has m g)) (ne-eqb g f other)
+
+    start-others : (c : Cell) → (c ≡ Start f → ⊥) → cellValue (cellSet t (Start f) p) c ≡ cellValue t c
+    unfolding cellValue cellSet cellsOf courseOf
+    start-others (Need b g) other = refl
+    start-others (Add b g) other = refl
+    start-others (Delete b g) other = refl
+    start-others (Start g) other = fact-keeps (t .run .start) g (λ e. other (ap Start e))
+    start-others (Goal g) other = refl
+
+    goal-others : (c : Cell) → (c ≡ Goal f → ⊥) → cellValue (cellSet t (Goal f) p) c ≡ cellValue t c
+    unfolding cellValue cellSet cellsOf courseOf
+    goal-others (Need b g) other = refl
+    goal-others (Add b g) other = refl
+    goal-others (Delete b g) other = refl
+    goal-others (Start g) other = refl
+    goal-others (Goal g) other = fact-keeps (t .run .goal) g (λ e. other (ap Goal e))
+
+    start-exactly : EditedTo t (record { cell = Start f; present = p }) (cellSet t (Start f) p)
+    unfolding cellValue cellSet courseOf
+    start-exactly = run-exactly (Start f) p (setFact (t .run .start) f p) (t .run .goal) (fact-sets (t .run .start)) start-others
+
+    goal-exactly : EditedTo t (record { cell = Goal f; present = p }) (cellSet t (Goal f) p)
+    unfolding cellValue cellSet courseOf
+    goal-exactly = run-exactly (Goal f) p (t .run .start) (setFact (t .run .goal) f p) (fact-sets (t .run .goal)) goal-others
+
+  cell-exactly : (c : Cell) (p : Bool) → cellInside t c ≡ true → EditedTo t (record { cell = c; present = p }) (cellSet t c p)
   unfolding cellSet cellInside kindSet
-  cell-elsewhere (Need a f) p h g other = kind-elsewhere t w a f p dropNeed (omega arith) h g other
-  cell-elsewhere (Add a f) p h g other = kind-elsewhere t w a f p addEffect (omega arith) h g other
-  cell-elsewhere (Delete a f) p h g other = kind-elsewhere t w a f p dropDelete (omega arith) h g other
-  cell-elsewhere (Start f) p h g other =
-      run-elsewhere t (setFact (t .run .start) f p) (t .run .goal) g (setFact-keeps (t .run .start) f p g (bounded f h) other) refl
-  cell-elsewhere (Goal f) p h g other =
-      run-elsewhere t (t .run .start) (setFact (t .run .goal) f p) g refl (setFact-keeps (t .run .goal) f p g (bounded f h) other)
+  cell-exactly (Need a f) p h = kind-exactly a f p h dropNeed (omega arith)
+  cell-exactly (Add a f) p h = kind-exactly a f p h addEffect (omega arith)
+  cell-exactly (Delete a f) p h = kind-exactly a f p h dropDelete (omega arith)
+  cell-exactly (Start f) p h = start-exactly f p h
+  cell-exactly (Goal f) p h = goal-exactly f p h
 
-  cell-outside : (c : Cell) (p : Bool) → cellInside t c ≡ true → SameOutside t (cellSet t c p)
-  unfolding cellSet cellInside kindSet
-  cell-outside (Need a f) p h = kind-outside t w a f p dropNeed (omega arith) h
-  cell-outside (Add a f) p h = kind-outside t w a f p addEffect (omega arith) h
-  cell-outside (Delete a f) p h = kind-outside t w a f p dropDelete (omega arith) h
-  cell-outside (Start f) p h =
-      run-outside t (setFact (t .run .start) f p) (t .run .goal) (w .shaped)
-      (λ g l. setFact-keeps (t .run .start) f p g (bounded f h) (outside-other f g h l)) (λ g l. refl)
-  cell-outside (Goal f) p h =
-      run-outside t (t .run .start) (setFact (t .run .goal) f p) (w .shaped) (λ g l. refl)
-      (λ g l. setFact-keeps (t .run .goal) f p g (bounded f h) (outside-other f g h l))
+pub edited-exactly : (t : Task) (e : Edit) → WellFormed t → cellInside t (e .cell) ≡ true → EditedTo t e (edited t e)
+edited-exactly t e w inside = cell-exactly t w (e .cell) (e .present) inside
+
+-- ---- there is one task with the cell set
+
+-- two truth values that cannot differ
+not-apart : (x y : Bool) → ((x ≡ y → ⊥) → ⊥) → x ≡ y
+not-apart true true h = refl
+not-apart true false h = absurd (h (λ e. false≢true (sym e)))
+not-apart false true h = absurd (h false≢true)
+not-apart false false h = refl
+
+-- were they apart, the cell would be neither the named one nor another
+same-cell : (t : Task) (e : Edit) (u v : Task) → EditedTo t e u → EditedTo t e v → (c : Cell) → cellValue u c ≡ cellValue v c
+same-cell t e u v d b c = not-apart (cellValue u c) (cellValue v c) (λ apart.
+    let other : c ≡ e .cell → ⊥ = λ same. apart (ap (cellValue u) same ∙ d .named ∙ sym (b .named) ∙ ap (cellValue v) (sym same)) in
+    apart (d .others c other ∙ sym (b .others c other)))
+
+pub edited-only : (t : Task) (e : Edit) (u v : Task) → EditedTo t e u → EditedTo t e v → u ≡ v
+unfolding cellValue courseOf
+edited-only t e u v d b =
+    let cell = same-cell t e u v d b in
+    let table =
+    same-table u v (d .shaped) (b .shaped)
+    (λ k a f hk. sym (kind-cell u a f k hk) ∙ cell (kindCell k a f) ∙ kind-cell v a f k hk)
+    (d .facts ∙ sym (b .facts)) (d .actions ∙ sym (b .actions)) (d .limit ∙ sym (b .limit)) in
+    let start = same-sets (u .run .start) (v .run .start) (λ f. cell (Start f)) in
+    let goal = same-sets (u .run .goal) (v .run .goal) (λ f. cell (Goal f)) in
+    let count = d .count ∙ sym (b .count) in
+    let steps = d .steps ∙ sym (b .steps) in
+    λ i. record { table = table i; run = record { start = start i; goal = goal i; count = count i; steps = steps i } }
 
 -- ---- what the session reads off
 
-module _ (t : Task) (e : Edit) (w : WellFormed t) (inside : cellInside t (e .cell) ≡ true) where
-  pub edited-well : WellFormed (edited t e)
-  edited-well = outside-well t (edited t e) w (cell-outside t w (e .cell) (e .present) inside)
+module _ (t : Task) (e : Edit) (u : Task) (d : EditedTo t e u) where
+  edited-sizes : SameSizes t u
+  edited-sizes = record { facts = d .facts; actions = d .actions; limit = d .limit; count = d .count; steps = d .steps }
 
-  pub edited-sets : cellValue (edited t e) (e .cell) ≡ e .present
-  edited-sets = cell-sets t w (e .cell) (e .present) inside
+  edited-cell : (k a f : ℕ) → k < kinds → (kindCell k a f ≡ e .cell → ⊥) → has (maskOf (u .table) k a) f ≡ has (maskOf (t .table) k a) f
+  edited-cell k a f hk other = sym (kind-cell u a f k hk) ∙ d .others (kindCell k a f) other ∙ kind-cell t a f k hk
 
-  pub edited-elsewhere : (g : ℕ) → (g ≡ cellFact (e .cell) → ⊥) → SameFact g t (edited t e)
-  edited-elsewhere = cell-elsewhere t w (e .cell) (e .present) inside
+  -- a task with a cell inside set is well formed
+  pub edited-well : WellFormed t → cellInside t (e .cell) ≡ true → WellFormed u
+  unfolding cellInside cellValue courseOf
+  edited-well w inside =
+      outside-well t u w
+      (record {
+        shaped = d .shaped;
+        sizes = edited-sizes;
+        cell = λ k a g hk out. edited-cell k a g hk (λ same.
+            let low = both (ltb a (t .table .actions)) (ltb g (t .table .facts)) (kind-inside t a g k hk ∙ ap (cellInside t) same ∙ inside) in
+            out (ltb-true g (t .table .facts) (low .1)) (ltb-true a (t .table .actions) (low .0)));
+        start = λ g h. d .others (Start g) (λ same. absurd (omega (arith, ltb-true g (t .table .facts) (ap (cellInside t) same ∙ inside))));
+        goal = λ g h. d .others (Goal g) (λ same. absurd (omega (arith, ltb-true g (t .table .facts) (ap (cellInside t) same ∙ inside))));
+      })
 
-  pub keeps-elsewhere : (g : ℕ) → (g ≡ cellFact (e .cell) → ⊥) → (l : List ℕ) → KeepsFor t g l → KeepsFor (edited t e) g l
-  keeps-elsewhere g other l = keeps-same g t (edited t e) (edited-elsewhere g other) l
+  -- every other fact is as it was
+  edited-elsewhere : (g : ℕ) → (g ≡ cellFact (e .cell) → ⊥) → SameFact g t u
+  unfolding cellValue courseOf
+  edited-elsewhere g other = record {
+    sizes = edited-sizes;
+    cell = λ k a hk. edited-cell k a g hk (λ same. other (kind-fact a g k hk ∙ ap cellFact same));
+    start = d .others (Start g) (λ same. other (ap cellFact same));
+    goal = d .others (Goal g) (λ same. other (ap cellFact same));
+  }
 
-  pub keeps-elsewhere-back : (g : ℕ) → (g ≡ cellFact (e .cell) → ⊥) → (l : List ℕ) → KeepsFor (edited t e) g l → KeepsFor t g l
-  keeps-elsewhere-back g other l = keeps-same g (edited t e) t (same-back g t (edited t e) (edited-elsewhere g other)) l
+  pub keeps-elsewhere : (g : ℕ) → (g ≡ cellFact (e .cell) → ⊥) → (l : List ℕ) → KeepsFor t g l → KeepsFor u g l
+  keeps-elsewhere g other l = keeps-same g t u (edited-elsewhere g other) l
+
+  pub keeps-elsewhere-back : (g : ℕ) → (g ≡ cellFact (e .cell) → ⊥) → (l : List ℕ) → KeepsFor u g l → KeepsFor t g l
+  keeps-elsewhere-back g other l = keeps-same g u t (same-back g t u (edited-elsewhere g other)) l

@@ -5,3 +5,4 @@ pub mod EditLaws
 pub mod MemberLaws
 pub mod PermittedLaws
 pub mod ApplyLaws
+pub mod Called

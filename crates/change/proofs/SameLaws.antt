@@ -7,6 +7,7 @@ use Prim.Native.Nat.{ℕ, _<_, _≤_}
 use native.Mathlib.Omega.{arith}
 use lib.Dec.{eqb, ltb}
 use lib.ListN.{getD}
+use lib.Seq.{ext-getD}
 use Rattle.facts.specs.Sets.{has}
 use Rattle.facts.proofs.Laws.{same-sets}
 use Rattle.table.proofs.Formation.{byKind-all}
@@ -18,7 +19,7 @@ use Rattle.table.specs.Sizes.{kinds}
 use Rattle.table.specs.Strips.{Course}
 use Rattle.table.specs.Tasks.{cellsOf, courseOf, maskOf, KeepsFor, Shaped, WellFormed}
 use Rattle.table.specs.declared.Task.{Task}
-use Rattle.change.proofs.KindLaws.{permitted-mask}
+use Rattle.change.proofs.KindLaws.{setsOf, mask-sets, shaped-long, permitted-mask}
 
 -- ---- what two tasks have in common
 
@@ -44,6 +45,25 @@ pub record SameOutside (t u : Task) : Type 0 where
       → has (maskOf (u .table) k a) g ≡ has (maskOf (t .table) k a) g
   pub start : (g : ℕ) → t .table .facts ≤ g → has (u .run .start) g ≡ has (t .run .start) g
   pub goal : (g : ℕ) → t .table .facts ≤ g → has (u .run .goal) g ≡ has (t .run .goal) g
+
+-- ---- equal sizes and equal cells are equal tables
+
+module _ (u v : Task) (su : Shaped u) (sv : Shaped v)
+    (cell : (k a f : ℕ) → k < kinds → has (maskOf (u .table) k a) f ≡ has (maskOf (v .table) k a) f) where
+  same-rows : (k : ℕ) → k < kinds → setsOf (u .table) k ≡ setsOf (v .table) k
+  same-rows k hk =
+      ext-getD 0 (setsOf (u .table) k) (setsOf (v .table) k) (shaped-long u su k hk ∙ sym (shaped-long v sv k hk)) (λ a h.
+      sym (mask-sets (u .table) a k hk) ∙
+      same-sets (maskOf (u .table) k a) (maskOf (v .table) k a) (λ f. cell k a f hk) ∙
+      mask-sets (v .table) a k hk)
+
+  pub same-table : u .table .facts ≡ v .table .facts → u .table .actions ≡ v .table .actions → u .table .limit ≡ v .table .limit
+      → u .table ≡ v .table
+  same-table facts actions limit =
+      let needs : u .table .needs ≡ v .table .needs = same-rows dropNeed (omega arith) in
+      let adds : u .table .adds ≡ v .table .adds = same-rows addEffect (omega arith) in
+      let deletes : u .table .deletes ≡ v .table .deletes = same-rows dropDelete (omega arith) in
+      λ i. record { facts = facts i; actions = actions i; limit = limit i; needs = needs i; adds = adds i; deletes = deletes i }
 
 -- ---- a change inside the task keeps it well formed
 

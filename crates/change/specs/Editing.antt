@@ -2,15 +2,55 @@
 -- or goal fact, and sets it to present or absent."
 use mathlib.Core.Bool.{Bool, _&&_}
 use mathlib.Core.List.{List}
+use mathlib.Core.Path.{_≡_}
 use Prim.Native.Nat.{ℕ}
 use lib.Dec.{ltb}
 use Rattle.table.specs.Setting.{setFact, setCell}
+use Rattle.table.specs.Tasks.{cellsOf, courseOf, Shaped}
 use Rattle.table.specs.declared.Task.{Task}
 use Rattle.table.specs.declared.Table.{Table}
 use Rattle.table.specs.declared.Run.{Run}
 use Rattle.change.specs.declared.Cell.{Cell}
 use Rattle.change.specs.declared.Cell.the-variants.{Need, Add, Delete, Start, Goal}
 use Rattle.change.specs.declared.Edit.{Edit}
+
+-- The fact that a cell concerns, and so the row that an edit writes afresh.
+abbrev pub cellFact : Cell → ℕ
+cellFact (Need a f) = f
+cellFact (Add a f) = f
+cellFact (Delete a f) = f
+cellFact (Start f) = f
+cellFact (Goal f) = f
+
+-- 14 is given if not: the fact, and the action of a need, an add or a delete, are in the task.
+unfoldable pub cellInside : Task → Cell → Bool
+cellInside t (Need a f) = ltb a (t .table .actions) && ltb f (t .table .facts)
+cellInside t (Add a f) = ltb a (t .table .actions) && ltb f (t .table .facts)
+cellInside t (Delete a f) = ltb a (t .table .actions) && ltb f (t .table .facts)
+cellInside t (Start f) = ltb f (t .table .facts)
+cellInside t (Goal f) = ltb f (t .table .facts)
+
+-- What a cell of a task holds: whether the fact is in that set of the action, in the start or in the goal.
+unfoldable pub cellValue : Task → Cell → Bool
+cellValue t (Need a f) = cellsOf (t .table) .needs a f
+cellValue t (Add a f) = cellsOf (t .table) .adds a f
+cellValue t (Delete a f) = cellsOf (t .table) .deletes a f
+cellValue t (Start f) = courseOf (t .run) .start f
+cellValue t (Goal f) = courseOf (t .run) .goal f
+
+-- "sets it to present or absent": u is the task t with this one cell set. The named cell is what the edit says; every other cell, of the
+-- same fact or of another, and all sizes and steps are as they were.
+pub record EditedTo (t : Task) (e : Edit) (u : Task) : Type 0 where
+  pub shaped : Shaped u
+  pub facts : u .table .facts ≡ t .table .facts
+  pub actions : u .table .actions ≡ t .table .actions
+  pub limit : u .table .limit ≡ t .table .limit
+  pub count : u .run .count ≡ t .run .count
+  pub steps : u .run .steps ≡ t .run .steps
+  pub named : cellValue u (e .cell) ≡ e .present
+  pub others : (c : Cell) → (c ≡ e .cell → ⊥) → cellValue u c ≡ cellValue t c
+
+-- ---- the same as the code works, on masks: that it is the one task with the cell set is proved (EditLaws)
 
 abbrev pub withNeeds : Table → List ℕ → Table
 withNeeds t sets = record { facts = t .facts; actions = t .actions; limit = t .limit; needs = sets; adds = t .adds; deletes = t .deletes }
@@ -37,19 +77,3 @@ cellSet t (Goal f) p = record { table = t .table; run = withGoal (t .run) (setFa
 
 abbrev pub edited : Task → Edit → Task
 edited t e = cellSet t (e .cell) (e .present)
-
--- The fact that a cell concerns, and so the row that an edit writes afresh.
-abbrev pub cellFact : Cell → ℕ
-cellFact (Need a f) = f
-cellFact (Add a f) = f
-cellFact (Delete a f) = f
-cellFact (Start f) = f
-cellFact (Goal f) = f
-
--- 14 is given if not: the fact, and the action of a need, an add or a delete, are in the task.
-unfoldable pub cellInside : Task → Cell → Bool
-cellInside t (Need a f) = ltb a (t .table .actions) && ltb f (t .table .facts)
-cellInside t (Add a f) = ltb a (t .table .actions) && ltb f (t .table .facts)
-cellInside t (Delete a f) = ltb a (t .table .actions) && ltb f (t .table .facts)
-cellInside t (Start f) = ltb f (t .table .facts)
-cellInside t (Goal f) = ltb f (t .table .facts)

@@ -6,11 +6,7 @@ use Prim.Native.Nat.{ℕ, zero, suc}
 use lib.Dec.{eqb}
 use lib.ListN.{getD}
 use Rattle.table.specs.Repairs.{byKind, addEffect, factOf, kindOf, actionOf}
-use Rattle.table.specs.Tasks.{cellsOf, courseOf}
 use Rattle.table.specs.declared.Table.{Table}
-use Rattle.table.specs.declared.Task.{Task}
-use Rattle.change.specs.declared.Cell.{Cell}
-use Rattle.change.specs.declared.Cell.the-variants.{Need, Add, Delete, Start, Goal}
 use Rattle.change.specs.Editing.{withNeeds, withAdds, withDeletes}
 use Rattle.table.specs.Setting.{setCell}
 
@@ -28,11 +24,3 @@ numberSet t n = kindSet t (kindOf n) (actionOf n) (factOf n) (eqb (kindOf n) add
 unfoldable pub oneByOne : Table → List ℕ → ℕ → Table
 oneByOne t l zero = t
 oneByOne t l (suc i) = numberSet (oneByOne t l i) (getD l i 0)
-
--- Whether a cell is present in a task.
-unfoldable pub cellValue : Task → Cell → Bool
-cellValue t (Need a f) = cellsOf (t .table) .needs a f
-cellValue t (Add a f) = cellsOf (t .table) .adds a f
-cellValue t (Delete a f) = cellsOf (t .table) .deletes a f
-cellValue t (Start f) = courseOf (t .run) .start f
-cellValue t (Goal f) = courseOf (t .run) .goal f

@@ -1,6 +1,6 @@
 -- Laws of the session's calls: which refusal is given, what each way out of a call promises, and that the promise determines the
 -- answer and what was lent. Assumes nothing.
-use mathlib.Core.Bool.{Bool, true, false, not, _&&_}
+use mathlib.Core.Bool.{Bool, true, false, not, _&&_, false≢true}
 use mathlib.Core.List.{List, [], _∷_}
 use mathlib.Core.Path.{_≡_, refl, sym, ap, _∙_, subst}
 use Prim.Native.Nat.{ℕ, _<_}
@@ -8,7 +8,8 @@ use native.Mathlib.Omega.{arith}
 use lib.Dec.{eqb, ltb}
 use lib.ListN.{length}
 use borrow.Author.Tests.{eq-eqb, ne-eqb, eqb-true, eqb-false, ltb-true}
-use Rattle.change.specs.Editing.{edited, cellFact, cellInside}
+use Rattle.change.proofs.EditLaws.{edited-exactly, edited-only}
+use Rattle.change.specs.Editing.{edited, cellFact, cellInside, EditedTo}
 use Rattle.change.specs.declared.Cell.{Cell}
 use Rattle.change.specs.declared.Cell.the-variants.{Need, Add, Delete, Start, Goal}
 use Rattle.change.specs.declared.Edit.{Edit}
@@ -24,7 +25,7 @@ use Rattle.table.specs.Sizes.{maxFacts, sessionPlaces}
 use Rattle.table.specs.Tasks.{WellFormed, formed}
 use Rattle.table.specs.declared.Reply.{Reply}
 use Rattle.table.specs.declared.Task.{Task}
-use Rattle.session.specs.Calls.{openRefusal, Opens, editRefusal, Edits, listed, Story, told-all, then}
+use Rattle.session.specs.Calls.{openRefusal, Opens, editRefusal, Edits, listed, Story, told-all, then, Made, made-none, made-set, made-refused}
 use Rattle.session.specs.Sessions.{inForm}
 use Rattle.session.specs.declared.Edited.{Edited}
 
@@ -34,13 +35,7 @@ use Rattle.session.specs.declared.Edited.{Edited}
 abbrev at-zero : ℕ → Refusal
 at-zero n = record { number = n; place = 0 }
 
--- Of two checks, and of three, none fires only if each test is passed.
-clear-two : (a b : Bool) → firstOf (refuse (not a) notWellFormed ∷ refuse (not b) notASession ∷ []) .number ≡ accepted → (a ≡ true) × (b ≡ true)
-unfolding firstOf
-clear-two true true h = (refl, refl)
-clear-two true false h = absurd (omega arith)
-clear-two false b h = absurd (omega arith)
-
+-- Of three checks none fires only if each test is passed.
 clear-three : (a b c : Bool) → firstOf (refuse (not a) notWellFormed ∷ refuse (not b) notASession ∷ refuse (not c) editOutside ∷ []) .number ≡ accepted
     → (a ≡ true) × (b ≡ true) × (c ≡ true)
 unfolding firstOf
@@ -61,12 +56,6 @@ module _ (t : Task) (s : List ℕ) where
   pub open-clear : formed t ≡ true → length s ≡ sessionPlaces → openRefusal t s ≡ none
   unfolding openRefusal firstOf
   open-clear h n = rw (h, eq-eqb (length s) sessionPlaces n)
-
-  pub open-accepted : openRefusal t s .number ≡ accepted → (formed t ≡ true) × (length s ≡ sessionPlaces)
-  unfolding openRefusal
-  open-accepted h =
-      let p = clear-two (formed t) (eqb (length s) sessionPlaces) h in
-      (p .0, eqb-true (length s) sessionPlaces (p .1))
 
   module _ (e : Edit) where
     pub edit-malformed : formed t ≡ false → editRefusal t s e ≡ at-zero notWellFormed
@@ -119,15 +108,16 @@ module _ (t : Task) (s : List ℕ) where
     accepted = λ k. absurd (omega arith);
   }
 
-  pub edits-done : (e : Edit) → formed t ≡ true → length s ≡ sessionPlaces → cellInside t (e .cell) ≡ true → {u : Task} {f : ℕ} {after : List ℕ}
+  pub edits-done : (e : Edit) → WellFormed t → length s ≡ sessionPlaces → cellInside t (e .cell) ≡ true → {u : Task} {f : ℕ} {after : List ℕ}
       → u ≡ edited t e → f ≡ cellFact (e .cell) → Rewritten u f s after → Edits t s e (record { number = accepted; place = 0; task = u }) after
-  edits-done e h n o {u} {f} {after} made fact w = record {
-    number = ap (λ (r : Refusal). r .number) (sym (edit-clear t s e h n o));
-    place = ap (λ (r : Refusal). r .place) (sym (edit-clear t s e h n o));
-    refused = λ k. absurd (k refl);
-    accepted = λ k.
-        (made, subst (λ (x : Task). Rewritten x (cellFact (e .cell)) s after) made (subst (λ (g : ℕ). Rewritten u g s after) fact w));
-  }
+  edits-done e w n o {u} {f} {after} made fact row =
+      let clear = edit-clear t s e (well-formed t w) n o in
+      record {
+        number = ap (λ (r : Refusal). r .number) (sym clear);
+        place = ap (λ (r : Refusal). r .place) (sym clear);
+        refused = λ k. absurd (k refl);
+        accepted = λ k. (subst (EditedTo t e) (sym made) (edited-exactly t e w o), subst (λ (g : ℕ). Rewritten u g s after) fact row);
+      }
 
 of-fact : (t : Task) → WellFormed t → (f : ℕ) → ltb f (t .table .facts) ≡ true → f < maxFacts
 of-fact t w f h = omega (arith, w .facts-high, ltb-true f (t .table .facts) h)
@@ -204,9 +194,11 @@ edits-unique t s e r q after other a b = pick (eqb (r .number) accepted) refl
         let n = eqb-true (r .number) accepted h in
         let p = a .accepted n in
         let o = b .accepted (sym same ∙ n) in
-        let long : length s ≡ sessionPlaces = edit-accepted t s e (sym (a .number) ∙ n) .1 in (
-          same-edited r q same place (p .0 ∙ sym (o .0)),
-          rewritten-unique (edited t e) (cellFact (e .cell)) s after other long (p .1) (o .1),
+        let long : length s ≡ sessionPlaces = edit-accepted t s e (sym (a .number) ∙ n) .1 in
+        let task = edited-only t e (r .task) (q .task) (p .0) (o .0) in (
+          same-edited r q same place task,
+          rewritten-unique (r .task) (cellFact (e .cell)) s after other long (p .1)
+              (subst (λ (x : Task). Rewritten x (cellFact (e .cell)) s other) (sym task) (o .1)),
         )
     pick false h =
         let n = eqb-false (r .number) accepted h in
@@ -214,12 +206,11 @@ edits-unique t s e r q after other a b = pick (eqb (r .number) accepted) refl
         let o = b .refused (λ k. n (same ∙ k)) in
         (same-edited r q same place (p .0 ∙ sym (o .0)), p .1 ∙ sym (o .1))
 
--- The same of a story: two stories of the same edits end with the same task and table.
-pub story-unique : (t : Task) (s : List ℕ) (es : List Edit) (u v : Task) (end other : List ℕ) → Story t s es u end → Story t s es v other
-    → (u ≡ v) × (end ≡ other)
-story-unique t s [] u v end other told-all told-all = (refl, refl)
-story-unique t s (e ∷ es) u v end other (then {r = r} {after = after} a story) (then {r = q} {after = before} b rest) =
-    let same = edits-unique t s e r q after before a b in
-    story-unique (r .task) after es u v end other story
-    (subst (λ (x : List ℕ). Story (r .task) x es v other) (sym (same .1))
-    (subst (λ (x : Edited). Story (x .task) before es v other) (sym (same .0)) rest))
+-- The same of the task that the accepted edits make.
+pub made-unique : (t : Task) (es : List Edit) (u v : Task) → Made t es u → Made t es v → u ≡ v
+made-unique t [] u v made-none made-none = refl
+made-unique t (e ∷ es) u v (made-set {q = q} i d rest) (made-set {q = p} j b more) =
+    made-unique q es u v rest (subst (λ (x : Task). Made x es v) (edited-only t e p q b d) more)
+made-unique t (e ∷ es) u v (made-set i d rest) (made-refused j more) = absurd (false≢true (sym j ∙ i))
+made-unique t (e ∷ es) u v (made-refused i rest) (made-set j b more) = absurd (false≢true (sym i ∙ j))
+made-unique t (e ∷ es) u v (made-refused i rest) (made-refused j more) = made-unique t es u v rest more

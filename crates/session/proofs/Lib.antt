@@ -2,4 +2,4 @@
 pub mod FormLaws
 pub mod CallLaws
 pub mod Demand3
-pub mod ReplayLaws
+pub mod Called

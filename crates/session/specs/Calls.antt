@@ -1,11 +1,11 @@
 -- What opening, editing and listing a session give, for every input; and demand 3's words.
-use mathlib.Core.Bool.{Bool, true, false, cond, not}
+use mathlib.Core.Bool.{Bool, true, false, cond, not, _&&_, _||_}
 use mathlib.Core.List.{List, [], _∷_}
 use mathlib.Core.Path.{_≡_}
 use Prim.Native.Nat.{ℕ}
 use lib.Dec.{eqb}
 use lib.ListN.{length}
-use Rattle.change.specs.Editing.{edited, cellFact, cellInside}
+use Rattle.change.specs.Editing.{cellFact, cellInside, EditedTo}
 use Rattle.change.specs.declared.Edit.{Edit}
 use Rattle.search.specs.Rows.{verdictIn}
 use Rattle.solve.specs.Solving.{told}
@@ -44,7 +44,7 @@ pub record Edits (t : Task) (s : List ℕ) (e : Edit) (r : Edited) (after : List
   pub number : r .number ≡ editRefusal t s e .number
   pub place : r .place ≡ editRefusal t s e .place
   pub refused : (r .number ≡ accepted → ⊥) → (r .task ≡ t) × (after ≡ s)
-  pub accepted : r .number ≡ accepted → (r .task ≡ edited t e) × Rewritten (edited t e) (cellFact (e .cell)) s after
+  pub accepted : r .number ≡ accepted → EditedTo t e (r .task) × Rewritten (r .task) (cellFact (e .cell)) s after
 
 -- "Listing joins the rows in order of fact: refusal 9 if a row says 8; else 10 if a row says 7 or the lengths sum to more
 -- than L; else the joined list." Before that 12, and 13 for a table that is not in form.
@@ -60,13 +60,13 @@ pub data Story : Task → List ℕ → List Edit → Task → List ℕ → Type 
   then : {t : Task} {s : List ℕ} {e : Edit} {r : Edited} {after : List ℕ} {es : List Edit} {u : Task} {end : List ℕ}
       → Edits t s e r after → Story (r .task) after es u end → Story t s (e ∷ es) u end
 
--- "the table as the accepted edits make it one after another"
-unfoldable pub madeBy : Task → List Edit → Task
-madeBy t [] = t
-madeBy t (e ∷ es) = cond {A = Task} (cellInside t (e .cell)) (madeBy (edited t e) es) (madeBy t es)
+-- "the table as the accepted edits make it one after another": u is t with the accepted edits made in turn, of each exactly its cell.
+pub data Made : Task → List Edit → Task → Type 0 where
+  made-none : {t : Task} → Made t [] t
+  made-set : {t q u : Task} {e : Edit} {es : List Edit} → cellInside t (e .cell) ≡ true → EditedTo t e q → Made q es u → Made t (e ∷ es) u
+  made-refused : {t u : Task} {e : Edit} {es : List Edit} → cellInside t (e .cell) ≡ false → Made t es u → Made t (e ∷ es) u
 
--- An accepted edit of the story names fact f.
+-- An accepted edit of the list names fact f. (Edits leave the sizes alone, so that each is inside exactly if it is inside the first task.)
 unfoldable pub names : Task → List Edit → ℕ → Bool
 names t [] f = false
-names t (e ∷ es) f =
-    cond (cellInside t (e .cell)) (cond (eqb (cellFact (e .cell)) f) true (names (edited t e) es f)) (names t es f)
+names t (e ∷ es) f = (cellInside t (e .cell) && eqb (cellFact (e .cell)) f) || names t es f

@@ -1,4 +1,4 @@
 -- The edit session: document 01, "The session table"; demand 3.
 pub mod Sessions
 pub mod Calls
-pub mod Replays
+pub mod EditNumbers

@@ -5,48 +5,32 @@ use search::row;
 use solve::report;
 use table::FACTS;
 use table::ROW;
-use table::ROW_PLACES;
 use table::SESSION_PLACES;
 use table::Table;
 use table::Task;
 use table::UNUSED;
 use table::repair::Repair;
 ghost use mathlib.Core.Path.{_≡_};
-ghost use Prim.Native.Nat.{_+_, _*_, _<_};
-ghost use lib.ListN.{length, getD};
+ghost use Prim.Native.Nat.{_<_};
 ghost use Rattle.solve.specs.Tables.{rowAt};
 ghost use Rattle.table.specs.Counting.{everyBelow};
-ghost use Rattle.table.specs.Sizes.{maxFacts, maxRow, sessionPlaces};
+ghost use Rattle.table.specs.Sizes.{maxFacts, maxRow};
 ghost use Rattle.table.specs.Tasks.{cellsOf};
 ghost use Rattle.session.specs.Sessions.{repairInForm, placeInForm, rowInForm, inForm};
 
-// A number of a fact's row.
-fn number_at(table: &[u16], f: usize, i: usize) -> usize
-    requires { ⌜ length (now table) ≡ sessionPlaces ⌝ }
-    requires { ⌜ f < maxFacts ⌝ }
-    requires { ⌜ i < maxRow + 1 ⌝ }
-    ensures { λ r. ⌜ r ≡ getD (rowAt (now (table .entry)) f) i 0 ⌝ }
-{
-    table[ROW_PLACES * f + i] as usize
-}
-
 // "permitted, ascending repairs of its own fact"
 fn is_repair_in_form(t: Table, table: &[u16], f: usize, i: usize) -> bool
-    requires { ⌜ length (now table) ≡ sessionPlaces ⌝ }
-    requires { ⌜ f < maxFacts ⌝ }
     requires { ⌜ i < maxRow ⌝ }
     ensures { λ r. ⌜ r ≡ repairInForm (cellsOf t) f (rowAt (now (table .entry)) f) i ⌝ }
 {
-    let before = number_at(table, f, i);
-    let n = number_at(table, f, i + 1);
+    let before = report::number_at(table, f, i);
+    let n = report::number_at(table, f, i + 1);
     let fact = Repair::of(n).fact;
     apply::is_permitted(t, n) & (fact == f) & ((i == 0) | (before < n))
 }
 
 // The i-th place: one of the row's repairs, or "65535 elsewhere".
 fn is_place_in_form(t: Table, table: &[u16], f: usize, i: usize) -> bool
-    requires { ⌜ length (now table) ≡ sessionPlaces ⌝ }
-    requires { ⌜ f < maxFacts ⌝ }
     requires { ⌜ i < maxRow ⌝ }
     ensures { λ r. ⌜ r ≡ placeInForm (cellsOf t) f (rowAt (now (table .entry)) f) i ⌝ }
 {
@@ -54,13 +38,11 @@ fn is_place_in_form(t: Table, table: &[u16], f: usize, i: usize) -> bool
     if i < count {
         is_repair_in_form(t, table, f, i)
     } else {
-        number_at(table, f, i + 1) == UNUSED as usize
+        report::number_at(table, f, i + 1) == UNUSED as usize
     }
 }
 
 fn are_places_in_form(t: Table, table: &[u16], f: usize) -> bool
-    requires { ⌜ length (now table) ≡ sessionPlaces ⌝ }
-    requires { ⌜ f < maxFacts ⌝ }
     ensures { λ r. ⌜ r ≡ everyBelow (placeInForm (cellsOf t) f (rowAt (now (table .entry)) f)) maxRow ⌝ }
 {
     let mut good = true;
@@ -72,17 +54,14 @@ fn are_places_in_form(t: Table, table: &[u16], f: usize) -> bool
 
 // "a first number 0 to 8, .. rows from F up are empty"
 fn is_row_in_form(t: Table, table: &[u16], f: usize) -> bool
-    requires { ⌜ length (now table) ≡ sessionPlaces ⌝ }
-    requires { ⌜ f < maxFacts ⌝ }
     ensures { λ r. ⌜ r ≡ rowInForm (cellsOf t) f (rowAt (now (table .entry)) f) ⌝ }
 {
     let facts = t.facts;
-    let first = report::first_at(table, f);
+    let first = report::number_at(table, f, 0);
     (first <= row::HOPELESS) & ((f < facts) | (first == 0)) & are_places_in_form(t, table, f)
 }
 
 fn are_rows_in_form(t: Table, table: &[u16]) -> bool
-    requires { ⌜ length (now table) ≡ sessionPlaces ⌝ }
     ensures { λ r. ⌜ r ≡ everyBelow (λ f. rowInForm (cellsOf t) f (rowAt (now (table .entry)) f)) maxFacts ⌝ }
 {
     let mut good = true;

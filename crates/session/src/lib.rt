@@ -1,6 +1,6 @@
 // The edit session: opening, editing and listing (document 01, "The session table").
+pub mod edits;
 pub mod form;
-pub mod replay;
 
 use change::Edit;
 use change::editing;
@@ -30,6 +30,7 @@ pub fn open(t: Task, table: &mut [u16]) -> Reply
         return table::refusal(refusals::NOT_WELL_FORMED);
     }
     if table.len() != SESSION_PLACES {
+        // A longer table is refused too.
         return table::refusal(refusals::NOT_A_SESSION);
     }
     rows::fill(t, table);

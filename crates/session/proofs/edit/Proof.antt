@@ -4,8 +4,8 @@ use mathlib.Core.Path.{_≡_, sym, _∙_, subst}
 use borrow.Author.Needs.{needs}
 use borrow.Author.Tests.{not-true, not-false}
 use native.Mathlib.Omega.{arith}
-use Rattle.change.proofs.EditLaws.{edited-well}
-use Rattle.change.specs.Editing.{cellInside}
+use Rattle.change.proofs.EditLaws.{edited-exactly, edited-well}
+use Rattle.change.specs.Editing.{edited, cellInside}
 use Rattle.table.proofs.Formation.{told-formed, told-unformed, well-formed}
 use Rattle.table.specs.Refusals.{notWellFormed, notASession, editOutside}
 use Rattle.table.specs.Tasks.{Shaped, WellFormed}
@@ -76,7 +76,8 @@ put-row-requires c κs =
     let e = g .before .before in
     let d = e .before in
     let a = d .before .before .before .args in (
-      subst WellFormed (sym (c .before .before .set-cell .ensures)) (edited-well (a .t) (a .e) (well d) (inside g)),
+      subst WellFormed (sym (c .before .before .set-cell .ensures))
+          (edited-well (a .t) (a .e) (edited (a .t) (a .e)) (edited-exactly (a .t) (a .e) (well d) (inside g)) (well d) (inside g)),
       (
         omega (arith, c .before .cell-fact .ensures, inside-low (a .t) (well d) (a .e .cell) (inside g)),
         e .if2 .left,
@@ -93,7 +94,7 @@ returns-4 c =
     let e = g .before .before in
     let d = e .before in
     let a = d .before .before .before .args in
-    edits-done (a .t) (a .table .now) (a .e) (well-formed (a .t) (well d)) (e .if2 .left) (inside g) (p .before .before .before .set-cell .ensures)
+    edits-done (a .t) (a .table .now) (a .e) (well d) (e .if2 .left) (inside g) (p .before .before .before .set-cell .ensures)
     (p .before .before .cell-fact .ensures) (p .put-row .ensures)
 
 pub edit-spec : {M : Type 1} → statement M

@@ -5,15 +5,15 @@ use Rattle.session.specs.Sessions.{rowInForm}
 use Rattle.session.proofs.form.is_row_in_form.Statement.{statement}
 use Rattle.session.proofs.form.is_row_in_form.Tie as tie
 
-first-at-requires : tie.Need-first-at-requires
-first-at-requires c κs = search needs
+number-at-requires : tie.Need-number-at-requires
+number-at-requires c κs = search needs
 
 are-places-in-form-requires : tie.Need-are-places-in-form-requires
 are-places-in-form-requires c κs = search needs
 
 returns : tie.Need-returns
 unfolding rowInForm cellsOf
-returns c = rw (c .before .first-at .ensures, c .are-places-in-form .ensures)
+returns c = rw (c .before .number-at .ensures, c .are-places-in-form .ensures)
 
 pub is-row-in-form-spec : {M : Type 1} → statement M
-is-row-in-form-spec = tie.close (tie.spec first-at-requires are-places-in-form-requires returns)
+is-row-in-form-spec = tie.close (tie.spec number-at-requires are-places-in-form-requires returns)

@@ -1,9 +1,9 @@
--- `session::replay::edit_at` meets its contract: the four numbers are the definition's. Assumes nothing.
+-- `promises::replay::edit_at` meets its contract: the four numbers are the definition's. Assumes nothing.
 use Prim.Native.Nat.{_+_}
 use borrow.Author.Needs.{needs}
 use native.Mathlib.Omega.{arith}
-use Rattle.session.proofs.replay.edit_at.Statement.{statement}
-use Rattle.session.proofs.replay.edit_at.Tie as tie
+use Rattle.promises.proofs.replay.edit_at.Statement.{statement}
+use Rattle.promises.proofs.replay.edit_at.Tie as tie
 
 mul-kind : tie.Need-mul-kind
 mul-kind c = search needs

@@ -10,11 +10,11 @@ use lib.ListN.{length, drop, length-drop}
 use lib.Seq.{getD-drop, drop-drop}
 use borrow.Author.Tests.{eqb-true, eqb-false}
 use Rattle.change.specs.declared.Edit.{Edit}
+use Rattle.session.specs.Calls.{Edits, Story, told-all, then}
+use Rattle.session.specs.declared.Edited.{Edited}
 use Rattle.table.specs.Refusals.{accepted}
 use Rattle.table.specs.declared.Task.{Task}
-use Rattle.session.specs.Calls.{Edits, Story, told-all, then}
-use Rattle.session.specs.Replays.{editPlaces, editAt, editsIn}
-use Rattle.session.specs.declared.Edited.{Edited}
+use Rattle.promises.specs.Replays.{editPlaces, editAt, editsIn}
 
 -- ---- the edits of a list
 
@@ -48,7 +48,7 @@ edits-next l i h =
 
 -- ---- the story so far
 
-pub edits-length : (t : Task) (s : List ℕ) (e : Edit) (r : Edited) (after : List ℕ) → Edits t s e r after → length after ≡ length s
+edits-length : (t : Task) (s : List ℕ) (e : Edit) (r : Edited) (after : List ℕ) → Edits t s e r after → length after ≡ length s
 edits-length t s e r after a = pick (eqb (r .number) accepted) refl
   where
     pick : (x : Bool) → eqb (r .number) accepted ≡ x → length after ≡ length s

@@ -1,8 +1,8 @@
--- `session::replay::cell_of` meets its contract: the tests are the definition's, in its order. Assumes nothing.
+-- `session::edits::cell_of` meets its contract: the tests are the definition's, in its order. Assumes nothing.
 use borrow.Author.Tests.{eq-eqb, ne-eqb}
-use Rattle.session.specs.Replays.{cellOf}
-use Rattle.session.proofs.replay.cell_of.Statement.{statement}
-use Rattle.session.proofs.replay.cell_of.Tie as tie
+use Rattle.session.specs.EditNumbers.{cellOf}
+use Rattle.session.proofs.edits.cell_of.Statement.{statement}
+use Rattle.session.proofs.edits.cell_of.Tie as tie
 
 returns : tie.Need-returns
 unfolding cellOf

@@ -1,13 +1,13 @@
--- `session::replay::replay` meets its contract: after i turns a story of the edits that are left is a story of all of them. Assumes nothing.
+-- `promises::replay::replay` meets its contract: after i turns a story of the edits that are left is a story of all of them. Assumes nothing.
 use mathlib.Core.Path.{_≡_, refl}
 use Prim.Native.Nat.{_/_, _-_}
 use borrow.Author.Needs.{needs}
 use native.Mathlib.Omega.{arith}
 use lib.ListN.{length}
-use Rattle.session.specs.Replays.{editPlaces}
-use Rattle.session.proofs.ReplayLaws.{Replayed, replayed-none, replayed-more, replayed-end}
-use Rattle.session.proofs.replay.replay.Statement.{statement}
-use Rattle.session.proofs.replay.replay.Tie as tie
+use Rattle.promises.specs.Replays.{editPlaces}
+use Rattle.promises.proofs.ReplayLaws.{Replayed, replayed-none, replayed-more, replayed-end}
+use Rattle.promises.proofs.replay.replay.Statement.{statement}
+use Rattle.promises.proofs.replay.replay.Tie as tie
 
 abbrev Inv-loop : tie.InvT-loop
 Inv-loop table₀ edits count task₀ i₀ table task i = (count ≡ length edits / editPlaces) × Replayed task₀ table₀ edits i task table

@@ -1,0 +1,49 @@
+// An edit as four numbers: the kind of cell, the action, the fact, and present or absent. (Document 01 has no such format: this is ours.)
+use change::Cell;
+use change::Edit;
+use table::FACTS;
+ghost use mathlib.Core.Path.{_≡_};
+ghost use Rattle.session.specs.EditNumbers.{cellOf, editOf};
+
+// The kinds of cell by their numbers, and the number that sets a cell to present.
+pub const NEED: usize = 0;
+
+pub const ADD: usize = 1;
+
+pub const DELETE: usize = 2;
+
+pub const START: usize = 3;
+
+pub const GOAL: usize = 4;
+
+pub const PRESENT: usize = 1;
+
+// A number that is no kind names a fact that no task has.
+fn cell_of(kind: usize, action: usize, fact: usize) -> Cell
+    ensures { λ r. ⌜ r ≡ cellOf kind action fact ⌝ }
+{
+    if kind == NEED {
+        Cell::Need { action, fact }
+    } else if kind == ADD {
+        Cell::Add { action, fact }
+    } else if kind == DELETE {
+        Cell::Delete { action, fact }
+    } else if kind == START {
+        Cell::Start { fact }
+    } else if kind == GOAL {
+        Cell::Goal { fact }
+    } else {
+        Cell::Start { fact: FACTS }
+    }
+}
+
+// The edit of four numbers, for every caller who gives an edit as numbers.
+pub fn edit_of(kind: usize, action: usize, fact: usize, present: usize) -> Edit
+    ensures { λ r. ⌜ r ≡ editOf kind action fact present ⌝ }
+{
+    let cell = cell_of(kind, action, fact);
+    Edit {
+        cell,
+        present: present == PRESENT,
+    }
+}
