@@ -6,21 +6,24 @@
     python3 samples/make.py --names samples/story.txt < LISTING
                                        print a listing with the source's names in place of its numbers
 
-A source has one statement a line; `#` opens a comment. Facts and actions are numbered in the order they are named.
+A source has one statement a line; `#` opens a comment. Facts and actions are numbered in the order they are named. A word
+with a range in braces stands for as many words: `row-{1..3}` is `row-1 row-2 row-3`.
 
     limit 3
     facts  NAME ..             (may be repeated)
     start  FACT ..
     goal   FACT ..
-    action NAME
+    action NAME ..             (what follows holds for each of them)
       needs   FACT ..
       adds    FACT ..
       deletes FACT ..
     steps  ACTION ..           (may be repeated)
     cut    LENGTH              (a damaged sample: only so many bytes are written)
+    fill   LENGTH              (a damaged sample: bytes 00 are written after its end, up to so many in all)
 """
 
 import pathlib
+import re
 import sys
 
 FOLDER = pathlib.Path(__file__).resolve().parent
@@ -39,22 +42,24 @@ class Source:
         self.facts, self.actions, self.steps = [], [], []
         self.start, self.goal = [], []
         self.cells = []  # (kind, action's name, fact's name)
-        self.cut = None
+        self.latest = []  # the actions that cells are said of
+        self.cut, self.fill = None, 0
         for number, line in enumerate(path.read_text().splitlines(), 1):
-            words = line.split("#")[0].split()
+            words = [word for part in line.split("#")[0].split() for word in spelt(part)]
             if words:
                 self.take(number, words[0], words[1:])
         if self.limit is None:
             sys.exit(f"{path.name}: no limit")
 
     def take(self, number, word, rest):
-        if word in CELL_KINDS and self.actions:
-            self.cells += [(CELL_KINDS[word], self.actions[-1], fact) for fact in rest]
-        elif word == "action" and len(rest) == 1:
+        if word in CELL_KINDS and self.latest:
+            self.cells += [(CELL_KINDS[word], action, fact) for action in self.latest for fact in rest]
+        elif word == "action" and rest:
             self.actions += rest
+            self.latest = rest
         elif word in ("facts", "start", "goal", "steps"):
             getattr(self, word).extend(rest)
-        elif word in ("limit", "cut") and len(rest) == 1:
+        elif word in ("limit", "cut", "fill") and len(rest) == 1:
             setattr(self, word, int(rest[0]))
         else:
             sys.exit(f"{self.path.name}, line {number}: not a statement: {word} {' '.join(rest)}")
@@ -82,7 +87,16 @@ class Source:
         records = self.records()
         judge(self.path.name, records)
         whole = bytes(number for record in records for number in record)
-        return whole if self.cut is None else whole[: self.cut]
+        return whole[: self.cut].ljust(self.fill, b"\0")
+
+
+def spelt(word):
+    """The words that a word stands for: a range in braces is spelt out."""
+    found = re.fullmatch(r"(.*)\{(\d+)\.\.(\d+)\}(.*)", word)
+    if not found:
+        return [word]
+    before, first, last, after = found.groups()
+    return [f"{before}{number}{after}" for number in range(int(first), int(last) + 1)]
 
 
 def judge(name, records):

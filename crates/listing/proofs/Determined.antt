@@ -4,7 +4,7 @@ use mathlib.Core.List.{List, [], _∷_}
 use mathlib.Core.Path.{_≡_, sym, ap, _∙_, subst}
 use Prim.Native.Nat.{ℕ, zero, suc, _≤_, zero-le}
 use native.Mathlib.Omega.{arith}
-use Rattle.table.proofs.OutcomeLaws.{given-fits, given-within}
+use Rattle.table.proofs.OutcomeLaws.{given-fits}
 use lib.ListN.{length, take}
 use Rattle.runcheck.specs.OpenNeeds.{checked}
 use Rattle.solve.specs.Solving.{Solves}
@@ -47,7 +47,3 @@ pub always-listed : {input room : List ℕ} {o : Outcome} → longestText ≤ le
 always-listed {input} {room} h a =
     let fits = text-fits (a .lists) in
     a .outcome ∙ given-fits (a .text) room (omega arith)
-
--- What is told to have been written lies in the room.
-pub listed-within : {input room : List ℕ} {o : Outcome} → ListsInto input room o → o .reply .length ≤ length room
-listed-within {input} {room} a = rw (a .outcome) (given-within (a .text) room)

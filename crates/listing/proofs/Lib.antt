@@ -5,5 +5,7 @@ pub mod LineLaws
 pub mod TextLength
 pub mod TextLaws
 pub mod Determined
+pub mod CutLaws
 pub mod Decimals
 pub mod Printed
+pub mod Called

@@ -1,9 +1,8 @@
--- `main`: what the listing tells to have written lies in the room that was lent for it. Assumes nothing.
+-- `main`: what is printed lies in the room. Assumes nothing.
 use mathlib.Core.Path.{sym}
-use native.Mathlib.Omega.{arith}
 use lib.Seq.{length-take-le}
-use Rattle.listing.proofs.Determined.{listed-within}
 use borrow.Author.Needs.{needs}
+use Rattle.zernoplysk.proofs.PrintLaws.{prints-within}
 use Rattle.zernoplysk.proofs.main.Statement.{statement}
 use Rattle.zernoplysk.proofs.main.Tie as tie
 
@@ -13,23 +12,14 @@ slice-aggregate-read-full c = search needs
 read-full-requires : tie.Need-read-full-requires
 read-full-requires c κs = search needs
 
-array-share-prefix-input : tie.Need-array-share-prefix-input
-array-share-prefix-input c = search needs
-
-slice-aggregate-listing : tie.Need-slice-aggregate-listing
-slice-aggregate-listing c = search needs
-
-slice-aggregate-listing-2 : tie.Need-slice-aggregate-listing-2
-slice-aggregate-listing-2 c = search needs
-
-listing-requires : tie.Need-listing-requires
-listing-requires c κs = search needs
+listed-requires : tie.Need-listed-requires
+listed-requires c κs = search needs
 
 array-share-prefix-text : tie.Need-array-share-prefix-text
-array-share-prefix-text c = omega (arith, listed-within (c .before .listing .ensures))
+array-share-prefix-text c = prints-within (c .listed .ensures)
 
 slice-aggregate-write-all : tie.Need-slice-aggregate-write-all
-slice-aggregate-write-all c = sym (length-take-le _ _ (omega (arith, listed-within (c .before .before .listing .ensures))))
+slice-aggregate-write-all c = sym (length-take-le _ _ (prints-within (c .before .listed .ensures)))
 
 write-all-requires : tie.Need-write-all-requires
 write-all-requires c κs = search needs
@@ -43,10 +33,7 @@ main-spec =
     (tie.spec
     slice-aggregate-read-full
     read-full-requires
-    array-share-prefix-input
-    slice-aggregate-listing
-    slice-aggregate-listing-2
-    listing-requires
+    listed-requires
     array-share-prefix-text
     slice-aggregate-write-all
     write-all-requires
