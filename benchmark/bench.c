@@ -24,7 +24,7 @@ static const double sample_time = 2e4, call_time = 2e8, edits_time = 5e9;
 
 static uint8_t file[INPUT_BYTES];
 static size_t file_len;
-static uint64_t read_answer[ZP_TASK_ANSWER_WORDS], answer[ZP_TASK_ANSWER_WORDS], back[ZP_TASK_ANSWER_WORDS];
+static uint64_t read_answer[ZP_TASK_ANSWER_WORDS], answer[ZP_CHECKED_WORDS], changed[ZP_TASK_WORDS];
 static const uint64_t *const task = read_answer + 2;
 static uint16_t table[ZP_TABLE_NUMBERS], room[ZP_LIST_NUMBERS];
 
@@ -94,14 +94,14 @@ static void all_cells(void) {
     take_cells(ZP_GOAL, 0, task[ZP_AT_GOAL]);
 }
 
-/* One cell to absent and back: the second edit starts from the task that the first gave. Gives the time of one edit. */
+/* One cell to absent and back, in a copy of the task. Gives the time of one edit. */
 static double edited(const struct cell *c) {
+    memcpy(changed, task, sizeof changed);
     double begun = now();
-    zp_edit(task, ZP_TASK_WORDS, c->kind, c->action, c->fact, 0, table, ZP_TABLE_NUMBERS, answer, ZP_TASK_ANSWER_WORDS);
-    zp_edit(answer + 2, ZP_TASK_WORDS, c->kind, c->action, c->fact, 1, table, ZP_TABLE_NUMBERS, back,
-            ZP_TASK_ANSWER_WORDS);
+    zp_edit(changed, ZP_TASK_WORDS, c->kind, c->action, c->fact, 0, table, ZP_TABLE_NUMBERS, answer, ZP_CHANGED_WORDS);
+    zp_edit(changed, ZP_TASK_WORDS, c->kind, c->action, c->fact, 1, table, ZP_TABLE_NUMBERS, answer, ZP_CHANGED_WORDS);
     double taken = (now() - begun) / 2;
-    if (memcmp(back + 2, task, ZP_TASK_WORDS * sizeof *task) != 0)
+    if (memcmp(changed, task, sizeof changed) != 0)
         exit(4);
     return taken;
 }

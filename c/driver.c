@@ -75,14 +75,22 @@ static void put(uint64_t n, size_t bytes) {
     output.length += bytes;
 }
 
-static void answer(const uint64_t *words, size_t count, const uint8_t *bytes, size_t length) {
-    put(count, 4);
+static void put_words(const uint64_t *words, size_t count) {
     for (size_t i = 0; i < count; i++)
         put(words[i], 8);
+}
+
+static void put_bytes(const uint8_t *bytes, size_t length) {
     put(length, 4);
     if (length > 0)
         memcpy(grow(&output, length), bytes, length);
     output.length += length;
+}
+
+static void answer(const uint64_t *words, size_t count, const uint8_t *bytes, size_t length) {
+    put(count, 4);
+    put_words(words, count);
+    put_bytes(bytes, length);
 }
 
 /* One request taken apart. The bytes are also read as numbers of 16 bits, and written back from them. */
@@ -94,12 +102,24 @@ struct request {
     uint16_t *half;
 };
 
-static void answer_halves(const uint64_t *words, size_t count, const struct request *q, size_t from, size_t until) {
+static const uint8_t *halves_as_bytes(const struct request *q, size_t from, size_t until) {
     for (size_t i = from; i < until; i++) {
         q->byte[2 * i] = (uint8_t)q->half[i];
         q->byte[2 * i + 1] = (uint8_t)(q->half[i] / 256);
     }
-    answer(words, count, q->byte + 2 * from, 2 * (until - from));
+    return q->byte + 2 * from;
+}
+
+static void answer_halves(const uint64_t *words, size_t count, const struct request *q, size_t from, size_t until) {
+    answer(words, count, halves_as_bytes(q, from, until), 2 * (until - from));
+}
+
+/* The two words of the answer, then the task's words as the call left them, as many as were lent. */
+static void answer_changed(const uint64_t *words, const struct request *q, size_t task, size_t halves) {
+    put(ZP_CHANGED_WORDS + task, 4);
+    put_words(words, ZP_CHANGED_WORDS);
+    put_words(q->word, task);
+    put_bytes(halves_as_bytes(q, 0, halves), 2 * halves);
 }
 
 static uint64_t word_at(const struct request *q, size_t i) { return i < q->words ? q->word[i] : 0; }
@@ -129,8 +149,8 @@ static void make(struct request *q) {
         answer(a, ZP_CHECKED_WORDS, NULL, 0);
         break;
     case APPLY:
-        zp_apply(q->word, task, q->half, q->halves, a, ZP_TASK_ANSWER_WORDS);
-        answer(a, ZP_TASK_ANSWER_WORDS, NULL, 0);
+        zp_apply(q->word, task, q->half, q->halves, a, ZP_CHANGED_WORDS);
+        answer_changed(a, q, task, 0);
         break;
     case SOLVE:
         zp_solve(q->word, task, q->half, q->halves, a, ZP_REPLY_WORDS);
@@ -142,8 +162,8 @@ static void make(struct request *q) {
         break;
     case EDIT:
         zp_edit(q->word, task, word_at(q, task), word_at(q, task + 1), word_at(q, task + 2), word_at(q, task + 3), q->half,
-                q->halves, a, ZP_TASK_ANSWER_WORDS);
-        answer_halves(a, ZP_TASK_ANSWER_WORDS, q, 0, q->halves);
+                q->halves, a, ZP_CHANGED_WORDS);
+        answer_changed(a, q, task, q->halves);
         break;
     case LIST: {
         uint64_t table = word_at(q, task);

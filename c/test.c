@@ -1,5 +1,5 @@
-/* A small test of each function of the header: 01's 36-byte file through every call, short rooms, empty slices and
- * wrong lengths. It prints what fails and ends with status 1 if anything did. */
+/* A small test of each function of the header: 01's 36-byte file through every call, the order of the parameters, short
+ * rooms and short answers, empty slices and wrong lengths. It prints what fails and ends with status 1 if anything did. */
 #include <stdio.h>
 #include <string.h>
 
@@ -18,9 +18,11 @@ static const uint8_t file[36] = {1, 4, 3, 3, 2, 0, 3, 3, 4, 0, 0, 4, 1, 1, 4, 2,
                                  2, 2, 5, 0, 1, 5, 2, 3, 6, 1, 1, 7, 0, 7, 1, 7, 2, 8};
 
 static uint64_t answer[ZP_TASK_ANSWER_WORDS + 1];
+/* The task of the file, as read; and what is lent to be changed, with a word behind it. */
 static uint64_t task[ZP_TASK_WORDS];
+static uint64_t lent[ZP_TASK_WORDS + 1];
 
-enum { UNTOUCHED = 7 };
+enum { UNTOUCHED = 7, HALF_UNTOUCHED = 0x0707 };
 
 /* The words of the answer, before the next call, all set to a value that no call gives there. */
 static uint64_t *fresh(void) {
@@ -40,6 +42,41 @@ static int is_reply(size_t number, size_t place, size_t length) {
     return answer[0] == number && answer[1] == place && answer[2] == length && kept(ZP_REPLY_WORDS);
 }
 
+static int is_changed(size_t number, size_t place) {
+    return answer[0] == number && answer[1] == place && kept(ZP_CHANGED_WORDS);
+}
+
+/* The task's words anew, to be changed. */
+static uint64_t *lend(void) {
+    memcpy(lent, task, sizeof task);
+    lent[ZP_TASK_WORDS] = UNTOUCHED;
+    return lent;
+}
+
+/* The words lent are the task's but for one, which holds this. */
+static int differs_at(size_t place, uint64_t word) {
+    for (size_t i = 0; i < ZP_TASK_WORDS; i++)
+        if (lent[i] != (i == place ? word : task[i]))
+            return 0;
+    return lent[ZP_TASK_WORDS] == UNTOUCHED;
+}
+
+static int as_lent(void) { return differs_at(0, task[0]); }
+
+static int bytes_kept(const uint8_t *room, size_t length) {
+    for (size_t i = 0; i < length; i++)
+        if (room[i] != UNTOUCHED)
+            return 0;
+    return 1;
+}
+
+static int halves_kept(const uint16_t *room, size_t length) {
+    for (size_t i = 0; i < length; i++)
+        if (room[i] != HALF_UNTOUCHED)
+            return 0;
+    return 1;
+}
+
 static void read_and_records(void) {
     expect(zp_read(file, sizeof file, fresh(), ZP_TASK_ANSWER_WORDS) == 0, "read: accepted");
     expect(answer[0] == 0 && answer[1] == 0 && kept(ZP_TASK_ANSWER_WORDS), "read: 0, 0 and 166 words");
@@ -51,53 +88,134 @@ static void read_and_records(void) {
     expect(task[ZP_AT_STEPS + 1] == 1 && task[ZP_AT_STEPS + 2] == 2 && task[ZP_AT_STEPS + 3] == 0, "read: steps");
     expect(zp_read(file, 35, fresh(), ZP_TASK_ANSWER_WORDS) == 1 && answer[1] == 35 && answer[2] == 0, "read: 1 at 35");
     expect(zp_read(NULL, 0, fresh(), ZP_TASK_ANSWER_WORDS) == 1 && answer[1] == 0, "read: nothing is 1 at 0");
-    expect(zp_read(file, sizeof file, fresh(), ZP_TASK_ANSWER_WORDS - 1) == 11 && kept(0), "read: short answer");
-    expect(zp_record(file, sizeof file, 8, fresh(), ZP_RECORD_WORDS) == 0, "record: accepted");
-    expect(answer[2] == 4 && answer[3] == 9 && answer[4] == 2 && answer[5] == 11 && kept(6), "record: a need");
     expect(zp_record(file, sizeof file, 36, fresh(), ZP_RECORD_WORDS) == 1 && answer[1] == 36, "record: past the end");
     expect(zp_record(NULL, 0, (size_t)-1, fresh(), ZP_RECORD_WORDS) == 1, "record: any place");
-    expect(zp_record(file, sizeof file, 8, fresh(), 5) == 11 && kept(0), "record: short answer");
+}
+
+/* One call of each function whose arguments are such that, were any two of its parameters exchanged, it would give
+ * something else. Where two are of one type (the task and the answer, the table and the room, the file and the room,
+ * the four numbers of an edit) nothing but this test pins their order. */
+static void order_of_reading_and_writing(void) {
+    uint8_t room[40];
+    expect(zp_record(file, sizeof file, 8, fresh(), ZP_RECORD_WORDS) == 0, "order: record");
+    expect(answer[0] == 0 && answer[1] == 0 && answer[2] == 4 && answer[3] == 9 && answer[4] == 2 && answer[5] == 11 &&
+               kept(ZP_RECORD_WORDS),
+           "order: record, file before place before answer");
+    expect(zp_read(file, sizeof file, fresh(), ZP_TASK_ANSWER_WORDS) == 0, "order: read");
+    expect(memcmp(answer + 2, task, sizeof task) == 0, "order: read, file before answer");
+    memset(room, UNTOUCHED, sizeof room);
+    expect(zp_write(task, ZP_TASK_WORDS, room, sizeof room, fresh(), ZP_REPLY_WORDS) == 0, "order: write");
+    expect(is_reply(0, 0, 36) && memcmp(room, file, sizeof file) == 0 && bytes_kept(room + 36, 4),
+           "order: write, task before room before answer");
+    expect(zp_check(lend(), ZP_TASK_WORDS, fresh(), ZP_CHECKED_WORDS) == 0, "order: check");
+    expect(answer[0] == 0 && answer[1] == 0 && answer[2] == 2 && answer[3] == 3 && answer[4] == 1 &&
+               kept(ZP_CHECKED_WORDS) && as_lent(),
+           "order: check, task before answer");
+}
+
+static void order_of_changing(void) {
+    static const uint16_t list[1] = {224};
+    uint16_t table[ZP_TABLE_NUMBERS];
+    expect(zp_apply(lend(), ZP_TASK_WORDS, list, 1, fresh(), ZP_CHANGED_WORDS) == 0, "order: apply");
+    expect(is_changed(0, 0) && differs_at(ZP_AT_ADDS, 6), "order: apply, task before list before answer");
+    expect(zp_open(lend(), ZP_TASK_WORDS, table, ZP_TABLE_NUMBERS, fresh(), ZP_REPLY_WORDS) == 0, "order: open");
+    expect(is_reply(0, 0, ZP_TABLE_NUMBERS) && table[7] == 1 && table[8] == 97 && as_lent(),
+           "order: open, task before table before answer");
+    /* Need 3 of action 2 to present: in any other order the numbers 0, 2, 3 and 1 name another cell or another value. */
+    expect(zp_edit(lend(), ZP_TASK_WORDS, ZP_NEED, 2, 3, 1, table, ZP_TABLE_NUMBERS, fresh(), ZP_CHANGED_WORDS) == 0,
+           "order: edit");
+    expect(is_changed(0, 0) && differs_at(ZP_AT_NEEDS + 2, 14),
+           "order: edit, kind before action before fact before present");
+    expect(table[21] == 1 && table[22] == 288 + 32 && table[8] == 97, "order: edit, the row of the fact");
+}
+
+static void order_of_solving(void) {
+    static const char text[] = "task 4 3 3 3\nopen 2 3 1\nset 2\ndrop-delete 1 1\nadd-effect 0 2\nend\n";
+    uint16_t room[8], table[ZP_TABLE_NUMBERS];
+    uint8_t letters[600];
+    memset(room, UNTOUCHED, sizeof room);
+    expect(zp_solve(task, ZP_TASK_WORDS, room, 8, fresh(), ZP_REPLY_WORDS) == 0, "order: solve");
+    expect(is_reply(0, 0, 2) && room[0] == 97 && room[1] == 224 && halves_kept(room + 2, 6),
+           "order: solve, task before room before answer");
+    zp_open(task, ZP_TASK_WORDS, table, ZP_TABLE_NUMBERS, fresh(), ZP_REPLY_WORDS);
+    memset(room, UNTOUCHED, sizeof room);
+    expect(zp_list(task, ZP_TASK_WORDS, table, ZP_TABLE_NUMBERS, room, 8, fresh(), ZP_REPLY_WORDS) == 0, "order: list");
+    expect(is_reply(0, 0, 2) && room[0] == 97 && room[1] == 224 && halves_kept(room + 2, 6),
+           "order: list, task before table before room before answer");
+    memset(letters, UNTOUCHED, sizeof letters);
+    expect(zp_listing(file, sizeof file, letters, sizeof letters, fresh(), ZP_REPLY_WORDS) == 0, "order: listing");
+    expect(is_reply(0, 0, sizeof text - 1) && memcmp(letters, text, sizeof text - 1) == 0 &&
+               bytes_kept(letters + sizeof text - 1, sizeof letters - sizeof text + 1),
+           "order: listing, input before room before answer");
+}
+
+static size_t less(size_t words, size_t missing) { return missing > words ? 0 : words - missing; }
+
+static int too_short(size_t number) { return number == ZP_ANSWER_TOO_SHORT; }
+
+/* An answer that lacks so many words: 255, and nothing lent is touched, whatever the call itself would give. */
+static void short_answers(size_t missing) {
+    uint8_t bytes[40];
+    uint16_t room[8], table[ZP_TABLE_NUMBERS];
+    size_t changed = less(ZP_CHANGED_WORDS, missing), reply = less(ZP_REPLY_WORDS, missing);
+    memset(bytes, UNTOUCHED, sizeof bytes);
+    memset(room, UNTOUCHED, sizeof room);
+    memset(table, UNTOUCHED, sizeof table);
+    fresh();
+    lend();
+    expect(too_short(zp_record(file, 36, 8, answer, less(ZP_RECORD_WORDS, missing))), "short answer: record");
+    expect(too_short(zp_read(file, 36, answer, less(ZP_TASK_ANSWER_WORDS, missing))), "short answer: read");
+    expect(too_short(zp_write(lent, 166, bytes, 40, answer, reply)), "short answer: write");
+    expect(too_short(zp_check(lent, 166, answer, less(ZP_CHECKED_WORDS, missing))), "short answer: check");
+    expect(too_short(zp_apply(lent, 166, table, 0, answer, changed)), "short answer: apply");
+    expect(too_short(zp_solve(lent, 166, room, 8, answer, reply)), "short answer: solve");
+    expect(too_short(zp_open(lent, 166, table, 448, answer, reply)), "short answer: open");
+    expect(too_short(zp_edit(lent, 166, ZP_NEED, 2, 3, 1, table, 448, answer, changed)), "short answer: edit");
+    expect(too_short(zp_list(lent, 166, table, 448, room, 8, answer, reply)), "short answer: list");
+    expect(too_short(zp_listing(file, 36, bytes, 40, answer, reply)), "short answer: listing");
+    expect(too_short(zp_solve(lent, 165, room, 0, answer, reply)), "short answer: before 12");
+    expect(too_short(zp_edit(lent, 165, 9, 9, 9, 9, table, 3, answer, changed)), "short answer: before 12, 13 and 14");
+    expect(bytes_kept(bytes, 40) && halves_kept(room, 8) && halves_kept(table, 448) && as_lent() && kept(0),
+           "short answer: nothing lent is touched");
 }
 
 static void write_and_check(void) {
     uint8_t room[40];
     memset(room, UNTOUCHED, sizeof room);
     expect(zp_write(task, ZP_TASK_WORDS, room, 35, fresh(), ZP_REPLY_WORDS) == 11 && is_reply(11, 0, 0), "write: short room");
-    expect(room[0] == UNTOUCHED && room[34] == UNTOUCHED, "write: a refusal writes nothing");
-    expect(zp_write(task, ZP_TASK_WORDS, room, 40, fresh(), ZP_REPLY_WORDS) == 0 && is_reply(0, 0, 36), "write: 36 bytes");
-    expect(memcmp(room, file, sizeof file) == 0 && room[36] == UNTOUCHED, "write: the file and nothing beside");
-    expect(zp_write(task, 165, room, 40, fresh(), ZP_REPLY_WORDS) == 12 && is_reply(12, 0, 0), "write: 165 words");
+    expect(zp_write(task, 165, room, 35, fresh(), ZP_REPLY_WORDS) == 12 && is_reply(12, 0, 0), "write: 165 words");
+    expect(zp_write(task, 165, NULL, 0, fresh(), ZP_REPLY_WORDS) == 12, "write: 12 before 11");
     expect(zp_write(task, ZP_TASK_WORDS, NULL, 0, fresh(), ZP_REPLY_WORDS) == 11, "write: no room");
-    expect(zp_check(task, ZP_TASK_WORDS, fresh(), ZP_CHECKED_WORDS) == 0, "check: accepted");
-    expect(answer[2] == 2 && answer[3] == 3 && answer[4] == 1 && kept(ZP_CHECKED_WORDS), "check: 2 3 1");
-    expect(zp_check(task, ZP_TASK_WORDS, fresh(), 4) == 11 && kept(0), "check: short answer");
+    expect(bytes_kept(room, sizeof room), "write: a refusal writes nothing");
     expect(zp_check(NULL, 0, fresh(), ZP_CHECKED_WORDS) == 12 && answer[1] == 0 && answer[2] == 0, "check: no task");
-    expect(zp_check(NULL, 0, NULL, 0) == 11, "check: nothing lent");
-    task[ZP_AT_STEPS] = 256;
-    expect(zp_check(task, ZP_TASK_WORDS, fresh(), ZP_CHECKED_WORDS) == 12, "check: step 256 is no action");
-    task[ZP_AT_STEPS] = 0;
+    expect(zp_check(NULL, 0, NULL, 0) == ZP_ANSWER_TOO_SHORT, "check: nothing lent");
+    lend()[ZP_AT_STEPS] = 256;
+    expect(zp_check(lent, ZP_TASK_WORDS, fresh(), ZP_CHECKED_WORDS) == 12, "check: step 256 is no action");
 }
 
 static void solve_and_apply(void) {
     uint16_t room[8];
     memset(room, UNTOUCHED, sizeof room);
     expect(zp_solve(task, ZP_TASK_WORDS, room, 1, fresh(), ZP_REPLY_WORDS) == 11 && is_reply(11, 0, 0), "solve: short room");
-    expect(zp_solve(task, ZP_TASK_WORDS, room, 8, fresh(), 2) == 11 && kept(0), "solve: short answer");
-    expect(room[0] == 0x0707 && room[7] == 0x0707, "solve: a refusal writes nothing");
-    expect(zp_solve(task, ZP_TASK_WORDS, room, 8, fresh(), ZP_REPLY_WORDS) == 0 && is_reply(0, 0, 2), "solve: two repairs");
-    expect(room[0] == 97 && room[1] == 224 && room[2] == 0x0707, "solve: 97 224");
-    task[ZP_AT_LIMIT] = 1;
-    expect(zp_solve(task, ZP_TASK_WORDS, room, 8, fresh(), ZP_REPLY_WORDS) == 10 && is_reply(10, 0, 0), "solve: limit 1");
-    task[ZP_AT_LIMIT] = 3;
-    expect(zp_apply(task, ZP_TASK_WORDS, room, 2, fresh(), ZP_TASK_ANSWER_WORDS) == 0, "apply: accepted");
-    expect(answer[2 + ZP_AT_DELETES + 1] == 0 && answer[2 + ZP_AT_ADDS] == 6, "apply: both cells");
-    expect(zp_check(answer + 2, ZP_TASK_WORDS, task, ZP_CHECKED_WORDS) == 0 && task[2] == 0, "apply: the run is valid");
-    zp_read(file, sizeof file, fresh(), ZP_TASK_ANSWER_WORDS);
-    memcpy(task, answer + 2, sizeof task);
-    expect(zp_apply(task, ZP_TASK_WORDS, room + 1, 2, fresh(), ZP_TASK_ANSWER_WORDS) == 15 && answer[1] == 1, "apply: 15 at 1");
-    expect(memcmp(task, answer + 2, sizeof task) == 0, "apply: a refusal returns the task");
-    expect(zp_apply(task, ZP_TASK_WORDS, NULL, 0, fresh(), ZP_TASK_ANSWER_WORDS) == 0, "apply: no repairs");
-    expect(zp_apply(task, ZP_TASK_WORDS, room, 2, fresh(), 167) == 11 && kept(0), "apply: short answer");
+    lend()[ZP_AT_LIMIT] = 1;
+    expect(zp_solve(lent, ZP_TASK_WORDS, room, 8, fresh(), ZP_REPLY_WORDS) == 10 && is_reply(10, 0, 0), "solve: 10");
+    expect(zp_solve(lent, ZP_TASK_WORDS, NULL, 0, fresh(), ZP_REPLY_WORDS) == 10, "solve: 10 before 11");
+    expect(halves_kept(room, 8), "solve: a refusal writes nothing");
+    zp_solve(task, ZP_TASK_WORDS, room, 8, fresh(), ZP_REPLY_WORDS);
+    expect(zp_apply(lend(), ZP_TASK_WORDS, room, 2, fresh(), ZP_CHANGED_WORDS) == 0 && is_changed(0, 0), "apply: accepted");
+    expect(lent[ZP_AT_DELETES + 1] == 0 && lent[ZP_AT_ADDS] == 6, "apply: both cells");
+    expect(zp_check(lent, ZP_TASK_WORDS, fresh(), ZP_CHECKED_WORDS) == 0 && answer[2] == 0, "apply: the run is valid");
+    expect(zp_apply(lend(), ZP_TASK_WORDS, NULL, 0, fresh(), ZP_CHANGED_WORDS) == 0 && as_lent(), "apply: no repairs");
+    expect(zp_apply(lend(), ZP_TASK_WORDS, room + 1, 2, fresh(), ZP_CHANGED_WORDS) == 15 && is_changed(15, 1),
+           "apply: 15 at 1");
+    expect(as_lent(), "apply: 15 leaves the task's words");
+    expect(zp_apply(lend(), 165, room, 2, fresh(), ZP_CHANGED_WORDS) == 12 && is_changed(12, 0), "apply: 165 words");
+    expect(as_lent(), "apply: 165 words are left as they were");
+    expect(zp_apply(lend(), 167, room, 2, fresh(), ZP_CHANGED_WORDS) == 12 && as_lent(), "apply: so are 167");
+    lend()[ZP_AT_STEPS] = 300;
+    expect(zp_apply(lent, ZP_TASK_WORDS, room, 2, fresh(), ZP_CHANGED_WORDS) == 12 && is_changed(12, 0), "apply: step 300");
+    expect(differs_at(ZP_AT_STEPS, 300), "apply: step 300 is left as it was");
+    expect(zp_apply(NULL, 0, NULL, 0, fresh(), ZP_CHANGED_WORDS) == 12, "apply: no words");
 }
 
 static void session(void) {
@@ -105,43 +223,59 @@ static void session(void) {
     memset(table, 0, sizeof table);
     expect(zp_open(task, ZP_TASK_WORDS, table, 447, fresh(), ZP_REPLY_WORDS) == 13 && is_reply(13, 0, 0), "open: 447 numbers");
     expect(zp_open(task, ZP_TASK_WORDS, table, 449, fresh(), ZP_REPLY_WORDS) == 13 && table[0] == 0, "open: 449 numbers");
-    expect(zp_open(task, ZP_TASK_WORDS, table, 448, fresh(), 0) == 11 && table[0] == 0 && kept(0), "open: short answer");
     expect(zp_open(task, ZP_TASK_WORDS, table, 448, fresh(), ZP_REPLY_WORDS) == 0 && is_reply(0, 0, 448), "open: accepted");
     expect(table[7] == 1 && table[8] == 97 && table[14] == 1 && table[15] == 224 && table[448] == 0, "open: the rows");
-    expect(zp_list(task, ZP_TASK_WORDS, table, 448, room, 6, fresh(), ZP_REPLY_WORDS) == 0, "list: accepted");
-    expect(is_reply(0, 0, 2) && room[0] == 97 && room[1] == 224, "list: 97 224");
     expect(zp_list(task, ZP_TASK_WORDS, table, 447, room, 6, fresh(), ZP_REPLY_WORDS) == 13, "list: 447 numbers");
-    expect(zp_list(task, ZP_TASK_WORDS, NULL, 0, NULL, 0, fresh(), ZP_REPLY_WORDS) == 13, "list: no table");
+    expect(zp_list(task, ZP_TASK_WORDS, NULL, 0, NULL, 0, fresh(), ZP_REPLY_WORDS) == 13, "list: no table, before 11");
     expect(zp_list(task, ZP_TASK_WORDS, table, 448, room, 1, fresh(), ZP_REPLY_WORDS) == 11, "list: short room");
-    expect(zp_edit(task, ZP_TASK_WORDS, ZP_DELETE, 3, 1, 0, table, 448, fresh(), ZP_TASK_ANSWER_WORDS) == 14, "edit: 14");
-    expect(memcmp(task, answer + 2, sizeof task) == 0, "edit: a refusal returns the task");
-    expect(zp_edit(task, ZP_TASK_WORDS, 5, 0, 0, 0, table, 448, fresh(), ZP_TASK_ANSWER_WORDS) == 14, "edit: no such kind");
-    expect(zp_edit(task, ZP_TASK_WORDS, ZP_DELETE, 1, 1, 0, table, 447, fresh(), ZP_TASK_ANSWER_WORDS) == 13, "edit: 447");
-    expect(zp_edit(task, ZP_TASK_WORDS, ZP_DELETE, 1, 1, 0, table, 448, fresh(), 3) == 11 && kept(0), "edit: short answer");
-    expect(zp_edit(task, ZP_TASK_WORDS, ZP_DELETE, 1, 1, 0, table, 448, fresh(), ZP_TASK_ANSWER_WORDS) == 0, "edit: accepted");
-    expect(answer[2 + ZP_AT_DELETES + 1] == 0 && table[7] == 0 && table[14] == 1, "edit: the cell and its row");
-    expect(zp_list(answer + 2, ZP_TASK_WORDS, table, 448, room, 6, task, ZP_REPLY_WORDS) == 0 && task[2] == 1, "list: one");
+    lend();
+    expect(zp_edit(lent, ZP_TASK_WORDS, ZP_DELETE, 1, 1, 0, table, 448, fresh(), ZP_CHANGED_WORDS) == 0, "edit: accepted");
+    expect(is_changed(0, 0) && differs_at(ZP_AT_DELETES + 1, 0), "edit: the cell and no other");
+    expect(table[7] == 0 && table[8] == 65535 && table[14] == 1 && table[15] == 224 && table[448] == 0,
+           "edit: its row and no other");
+    expect(zp_list(lent, ZP_TASK_WORDS, table, 448, room, 6, fresh(), ZP_REPLY_WORDS) == 0 && is_reply(0, 0, 1), "list: one");
     expect(room[0] == 224, "list: 224");
 }
 
+static void refused_edits(void) {
+    uint16_t table[ZP_TABLE_NUMBERS];
+    memset(table, UNTOUCHED, sizeof table);
+    expect(zp_edit(lend(), ZP_TASK_WORDS, ZP_DELETE, 3, 1, 0, table, 448, fresh(), ZP_CHANGED_WORDS) == 14, "edit: 14");
+    expect(is_changed(14, 0) && as_lent(), "edit: 14 leaves the task's words");
+    expect(zp_edit(lend(), ZP_TASK_WORDS, 5, 0, 0, 0, table, 448, fresh(), ZP_CHANGED_WORDS) == 14, "edit: no such kind");
+    expect(as_lent(), "edit: no such kind leaves the task's words");
+    expect(zp_edit(lend(), ZP_TASK_WORDS, ZP_DELETE, 3, 1, 0, table, 447, fresh(), ZP_CHANGED_WORDS) == 13,
+           "edit: 447 numbers, before 14");
+    expect(is_changed(13, 0) && as_lent(), "edit: 13 leaves the task's words");
+    expect(zp_edit(lend(), 165, ZP_DELETE, 3, 1, 0, table, 447, fresh(), ZP_CHANGED_WORDS) == 12,
+           "edit: 165 words, before 13 and 14");
+    expect(is_changed(12, 0) && as_lent(), "edit: 165 words are left as they were");
+    lend()[ZP_AT_STEPS + 1] = 300;
+    expect(zp_edit(lent, ZP_TASK_WORDS, ZP_DELETE, 1, 1, 0, table, 448, fresh(), ZP_CHANGED_WORDS) == 12, "edit: step 300");
+    expect(is_changed(12, 0) && differs_at(ZP_AT_STEPS + 1, 300), "edit: step 300 is left as it was");
+    expect(halves_kept(table, 448), "edit: a refusal leaves the table");
+}
+
 static void listing(void) {
-    static const char text[] = "task 4 3 3 3\nopen 2 3 1\nset 2\ndrop-delete 1 1\nadd-effect 0 2\nend\n";
     uint8_t room[600];
     memset(room, UNTOUCHED, sizeof room);
-    expect(zp_listing(file, sizeof file, room, 3, fresh(), ZP_REPLY_WORDS) == 11 && room[0] == UNTOUCHED, "listing: short room");
-    expect(zp_listing(file, sizeof file, room, sizeof room, fresh(), ZP_REPLY_WORDS) == 0, "listing: accepted");
-    expect(is_reply(0, 0, sizeof text - 1) && memcmp(room, text, sizeof text - 1) == 0, "listing: the text");
-    expect(room[sizeof text - 1] == UNTOUCHED, "listing: nothing beside");
+    expect(zp_listing(file, sizeof file, room, 3, fresh(), ZP_REPLY_WORDS) == 11 && is_reply(11, 0, 0), "listing: short room");
+    expect(bytes_kept(room, sizeof room), "listing: a refusal writes nothing");
     expect(zp_listing(NULL, 0, room, sizeof room, fresh(), ZP_REPLY_WORDS) == 0 && memcmp(room, "refused 1 0\n", 12) == 0,
            "listing: nothing is refused 1 0");
-    expect(zp_listing(file, sizeof file, room, sizeof room, fresh(), 2) == 11 && kept(0), "listing: short answer");
 }
 
 int main(void) {
     read_and_records();
+    order_of_reading_and_writing();
+    order_of_changing();
+    order_of_solving();
+    short_answers(1);
+    short_answers(ZP_TASK_ANSWER_WORDS);
     write_and_check();
     solve_and_apply();
     session();
+    refused_edits();
     listing();
     printf(failures == 0 ? "c: every expectation holds\n" : "c: %d expectations failed\n", failures);
     return failures != 0;

@@ -6,10 +6,14 @@
  *
  * A task crosses as ZP_TASK_WORDS words, in the order of the ZP_AT_ places. Any 166 words are a task, well formed or
  * not; a step above 255 counts as 255. Another number of words is refused with 12, place 0, as the task of zeros.
+ * zp_apply and zp_edit change the task in the words that it is lent in; a refused call leaves them exactly as they were,
+ * whatever they were and however many.
  *
  * An answer crosses as words in `answer`: the number (0, or the refusal of 01's table) and the place first, then what
- * the call gives. One rule: if `answer` has fewer words than the call's answer, the call returns 11 and touches nothing
- * of what was lent; otherwise it writes its words from the first on, nothing beside, and returns the first of them.
+ * the call gives. One rule: if `answer` has fewer words than the call's answer, nothing is called: ZP_ANSWER_TOO_SHORT
+ * is returned and nothing of what was lent is touched, `answer` included. Otherwise the call is made, its words are
+ * written from the first on, nothing beside, and the first of them is returned. The answer's words are the one thing
+ * that a refused call writes.
  */
 #ifndef ZERNOPLYSK_H
 #define ZERNOPLYSK_H
@@ -38,7 +42,11 @@ enum {
     ZP_AT_STEPS = ZP_AT_COUNT + 1,                /* an action for each of the 64 places */
     ZP_TASK_WORDS = ZP_AT_STEPS + ZP_STEPS,
 
+    /* The one number that is not of 01's table: `answer` is too short, and nothing was called. */
+    ZP_ANSWER_TOO_SHORT = 255,
+
     /* How many words each kind of answer has. */
+    ZP_CHANGED_WORDS = 2,                         /* number, place; the task is changed where it is lent */
     ZP_REPLY_WORDS = 3,                           /* number, place, length */
     ZP_CHECKED_WORDS = 5,                         /* number, place, total, step, fact */
     ZP_RECORD_WORDS = 6,                          /* number, place, kind, start, length, next */
@@ -70,8 +78,8 @@ size_t zp_write(const uint64_t *task, size_t task_len, uint8_t *room, size_t roo
 /* The run check. Answer: ZP_CHECKED_WORDS. */
 size_t zp_check(const uint64_t *task, size_t task_len, uint64_t *answer, size_t answer_len);
 
-/* A list of repair numbers applied at once. Answer: ZP_TASK_ANSWER_WORDS. */
-size_t zp_apply(const uint64_t *task, size_t task_len, const uint16_t *list, size_t list_len, uint64_t *answer,
+/* A list of repair numbers applied at once to the task, in its words. Answer: ZP_CHANGED_WORDS. */
+size_t zp_apply(uint64_t *task, size_t task_len, const uint16_t *list, size_t list_len, uint64_t *answer,
                 size_t answer_len);
 
 /* The least repair list into `room`. Answer: ZP_REPLY_WORDS. */
@@ -82,9 +90,9 @@ size_t zp_solve(const uint64_t *task, size_t task_len, uint16_t *room, size_t ro
 size_t zp_open(const uint64_t *task, size_t task_len, uint16_t *table, size_t table_len, uint64_t *answer,
                size_t answer_len);
 
-/* One cell set to present (not 0) or absent (0), and its fact's row of the table written afresh.
- * Answer: ZP_TASK_ANSWER_WORDS, the edited task. */
-size_t zp_edit(const uint64_t *task, size_t task_len, size_t kind, size_t action, size_t fact, size_t present,
+/* One cell set to present (1) or absent (any other number) in the task's words, and its fact's row of the table written
+ * afresh. Answer: ZP_CHANGED_WORDS. */
+size_t zp_edit(uint64_t *task, size_t task_len, size_t kind, size_t action, size_t fact, size_t present,
                uint16_t *table, size_t table_len, uint64_t *answer, size_t answer_len);
 
 /* The list of a session table into `room`. Answer: ZP_REPLY_WORDS. */

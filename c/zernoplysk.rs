@@ -1,8 +1,12 @@
 //! Zernoplysk for Rust: the functions of zernoplysk.h declared once, each with a safe function over slices, which is all
 //! that a caller needs (docs/BOUNDARY.md). Link target/staticlib/libboundary.a (x86-64). `answer` is lent for the words
-//! of the answer: number and place first; where it is too short, the call returns 11 and touches nothing.
+//! of the answer: number and place first; where it is too short, nothing is called or touched, and `ANSWER_TOO_SHORT` is
+//! returned. `apply` and `edit` change the task in the words that it is lent in; a refused call leaves them as they were.
+
+pub const ANSWER_TOO_SHORT: usize = 255;
 
 pub const TASK_WORDS: usize = 166;
+pub const CHANGED_WORDS: usize = 2;
 pub const REPLY_WORDS: usize = 3;
 pub const CHECKED_WORDS: usize = 5;
 pub const RECORD_WORDS: usize = 6;
@@ -27,7 +31,7 @@ extern "C" {
     ) -> usize;
     fn zp_check(task: *const u64, task_len: usize, answer: *mut u64, answer_len: usize) -> usize;
     fn zp_apply(
-        task: *const u64,
+        task: *mut u64,
         task_len: usize,
         list: *const u16,
         list_len: usize,
@@ -51,7 +55,7 @@ extern "C" {
         answer_len: usize,
     ) -> usize;
     fn zp_edit(
-        task: *const u64,
+        task: *mut u64,
         task_len: usize,
         kind: usize,
         action: usize,
@@ -123,12 +127,12 @@ pub fn check(task: &[u64], answer: &mut [u64]) -> usize {
     unsafe { zp_check(task.as_ptr(), task.len(), answer.as_mut_ptr(), answer.len()) }
 }
 
-/// A list of repair numbers applied at once. Answer: `TASK_ANSWER_WORDS`.
-pub fn apply(task: &[u64], list: &[u16], answer: &mut [u64]) -> usize {
+/// A list of repair numbers applied at once to the task, in its words. Answer: `CHANGED_WORDS`.
+pub fn apply(task: &mut [u64], list: &[u16], answer: &mut [u64]) -> usize {
     // SAFETY: each pointer is good for its length, and what may be written is lent to this call alone.
     unsafe {
         zp_apply(
-            task.as_ptr(),
+            task.as_mut_ptr(),
             task.len(),
             list.as_ptr(),
             list.len(),
@@ -168,9 +172,9 @@ pub fn open(task: &[u64], table: &mut [u16], answer: &mut [u64]) -> usize {
     }
 }
 
-/// One cell set to present (1) or absent, its fact's row written afresh. Answer: `TASK_ANSWER_WORDS`.
+/// One cell set to present (1) or absent in the task's words, its fact's row written afresh. Answer: `CHANGED_WORDS`.
 pub fn edit(
-    task: &[u64],
+    task: &mut [u64],
     kind: usize,
     action: usize,
     fact: usize,
@@ -181,7 +185,7 @@ pub fn edit(
     // SAFETY: each pointer is good for its length, and what may be written is lent to this call alone.
     unsafe {
         zp_edit(
-            task.as_ptr(),
+            task.as_mut_ptr(),
             task.len(),
             kind,
             action,

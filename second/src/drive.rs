@@ -7,7 +7,7 @@ use crate::faults::{Fault, FAULTS};
 use crate::options::Options;
 use crate::protocol::{Request, Response};
 use crate::reference::{Budgets, Reference};
-use crate::task::{Task, WORDS};
+use crate::task::Task;
 
 /// The reference with at most one fault, and how many edits it has made.
 pub struct Broken {
@@ -60,7 +60,7 @@ impl Broken {
 
     /// The right response to the request with another task.
     pub fn with_task(&mut self, request: &Request, task: &Task) -> Response {
-        let words = [&task.words(), &request.words[WORDS..]].concat();
+        let words = [&task.words(), request.more_words()].concat();
         self.right(&Request { words, ..request.clone() })
     }
 }

@@ -13,7 +13,7 @@ use crate::task::{has, Action, Task, MOST_FACTS, MOST_STEPS, WORDS};
 pub type Fault = fn(&mut Broken, &Request, Response) -> Response;
 
 /// The faults by name.
-pub const FAULTS: [(&str, Fault); 23] = [
+pub const FAULTS: [(&str, Fault); 25] = [
     ("limit-below", limit_below),
     ("equal-neighbours", equal_neighbours),
     ("range-after-order", range_after_order),
@@ -30,6 +30,8 @@ pub const FAULTS: [(&str, Fault); 23] = [
     ("goals-dropped", goals_dropped),
     ("refused-solve-writes", refused_solve_writes),
     ("refused-gives-zeros", refused_gives_zeros),
+    ("refused-gives-its-reading", refused_gives_its_reading),
+    ("refused-gives-166-words", refused_gives_166_words),
     ("row-six-is-seven", row_six_is_seven),
     ("longer-table", longer_table),
     ("stale-row", stale_row),
@@ -40,7 +42,7 @@ pub const FAULTS: [(&str, Fault); 23] = [
 ];
 
 fn task_of(request: &Request) -> Option<Task> {
-    request.words.get(..WORDS).map(Task::from_words)
+    request.task_words().map(Task::from_words)
 }
 
 fn refused_with(response: &Response, number: u64) -> bool {
@@ -236,6 +238,24 @@ fn refused_gives_zeros(_: &mut Broken, request: &Request, mut right: Response) -
     right
 }
 
+/// A refused edit or applying gives the task as it read it: a step above 255 comes back as 255.
+fn refused_gives_its_reading(_: &mut Broken, request: &Request, mut right: Response) -> Response {
+    if [Call::Edit, Call::Apply].contains(&request.call) && right.words.len() == 2 + WORDS {
+        let read = Task::from_words(&right.words[2..]).words();
+        right.words[2..].copy_from_slice(&read);
+    }
+    right
+}
+
+/// A refused edit or applying of another number of words gives the 166 words of the task of zeros.
+fn refused_gives_166_words(_: &mut Broken, request: &Request, mut right: Response) -> Response {
+    if [Call::Edit, Call::Apply].contains(&request.call) && right.words.len() != 2 + WORDS {
+        right.words.truncate(2);
+        right.words.extend(Task::zeros().words());
+    }
+    right
+}
+
 /// A list of six counts as more than six.
 fn row_six_is_seven(_: &mut Broken, request: &Request, mut right: Response) -> Response {
     if request.call == Call::Open && refused_with(&right, 0) {
@@ -288,7 +308,7 @@ fn later_edits_echo(broken: &mut Broken, request: &Request, right: Response) -> 
     if broken.edits <= 1000 {
         return right;
     }
-    let words = [&[0, 0], &request.words[..WORDS]].concat();
+    let words = [&[0, 0], request.task_words().unwrap_or(&[])].concat();
     Response { words, bytes: request.bytes.clone() }
 }
 
@@ -311,9 +331,9 @@ fn form_of_used_places_only(broken: &mut Broken, request: &Request, right: Respo
     if request.call != Call::List || !refused_with(&right, 13) {
         return right;
     }
-    let task = Task::from_words(&request.words[..WORDS]);
+    let task = Task::from_words(request.task_words().unwrap_or(&[]));
     let mut numbers = numbers_of(&request.bytes);
-    if request.words[WORDS] as usize != TABLE {
+    if request.more_words()[0] as usize != TABLE {
         return right;
     }
     for row in numbers[..TABLE].chunks_mut(ROW).filter(|row| row[0] < ROW as u16) {

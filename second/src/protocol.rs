@@ -53,6 +53,28 @@ pub struct Response {
 }
 
 impl Request {
+    /// The words that the request lends as a task, however many they are; none for a call on a file.
+    pub fn task_words(&self) -> Option<&[u64]> {
+        match self.call {
+            Call::Record | Call::Read | Call::Listing => None,
+            _ => Some(self.parted().0),
+        }
+    }
+
+    /// The words that stand behind the task: an edit, or how many numbers are the table.
+    pub fn more_words(&self) -> &[u64] {
+        self.parted().1
+    }
+
+    fn parted(&self) -> (&[u64], &[u64]) {
+        let more = match self.call {
+            Call::Edit => 4,
+            Call::List => 1,
+            _ => 0,
+        };
+        self.words.split_at(self.words.len() - more)
+    }
+
     pub fn encode(&self, out: &mut Vec<u8>) {
         out.push(self.call as u8);
         encode_body(&self.words, &self.bytes, out);

@@ -8,7 +8,7 @@ use crate::refusal::{Refusal, Stop};
 use crate::repair::apply;
 use crate::run::check;
 use crate::session::{edit, joined_answer, list, open, Cell, Edit};
-use crate::task::{Task, WORDS};
+use crate::task::Task;
 
 /// How many lists one solve, and one row, may simulate.
 #[derive(Clone, Copy)]
@@ -50,10 +50,10 @@ impl Reference {
     /// The response that document 01 demands; none if it is too dear to enumerate.
     pub fn respond(&mut self, request: &Request) -> Option<Response> {
         self.means = Means::None;
-        let words = &request.words;
+        let words = request.task_words().unwrap_or(&[]);
         let bytes = &request.bytes;
         match request.call {
-            Call::Record => Some(record_response(bytes, words[0])),
+            Call::Record => Some(record_response(bytes, request.words[0])),
             Call::Read => Some(read_response(bytes)),
             Call::Write => {
                 let mut room = bytes.clone();
@@ -62,8 +62,8 @@ impl Reference {
             }
             Call::Check => Some(check_response(&Task::from_words(words))),
             Call::Apply => {
-                let task = Task::from_words(words);
-                task_response(&task, apply(&task, &numbers_of(bytes)).map_err(Stop::from), vec![])
+                let repaired = apply(&Task::from_words(words), &numbers_of(bytes));
+                task_response(words, repaired.map_err(Stop::from), vec![])
             }
             Call::Solve => {
                 let mut room = numbers_of(bytes);
@@ -76,8 +76,13 @@ impl Reference {
                 let length = open(&Task::from_words(words), &mut table, self.budgets.row);
                 length_response(length, bytes_of(&table))
             }
-            Call::Edit => self.edit_response(words, bytes),
-            Call::List => list_response(words, bytes),
+            Call::Edit => {
+                let mut table = numbers_of(bytes);
+                let asked = edit_of(request.more_words());
+                let edited = edit(&Task::from_words(words), &asked, &mut table, self.budgets.row);
+                task_response(words, edited, bytes_of(&table))
+            }
+            Call::List => list_response(&Task::from_words(words), request.more_words()[0] as usize, bytes),
             Call::Listing => {
                 let text = listing_by(bytes, |task| self.solve(task)).ok()?;
                 Some(Response { words: vec![], bytes: text.into_bytes() })
@@ -98,27 +103,19 @@ impl Reference {
         self.means = means;
         found
     }
-
-    fn edit_response(&self, words: &[u64], bytes: &[u8]) -> Option<Response> {
-        let (task, asked) = edit_of(words);
-        let mut table = numbers_of(bytes);
-        let edited = edit(&task, &asked, &mut table, self.budgets.row);
-        task_response(&task, edited, bytes_of(&table))
-    }
 }
 
-/// The task and the edit that an edit request's words name.
-fn edit_of(words: &[u64]) -> (Task, Edit) {
-    let (task, rest) = words.split_at(WORDS);
-    let action = rest[1];
-    let cell = match rest[0] {
+/// The edit that four words name.
+fn edit_of(words: &[u64]) -> Edit {
+    let action = words[1];
+    let cell = match words[0] {
         0 => Cell::Need { action },
         1 => Cell::Add { action },
         2 => Cell::Delete { action },
         3 => Cell::Start,
         _ => Cell::Goal,
     };
-    (Task::from_words(task), Edit { cell, fact: rest[2], present: rest[3] == 1 })
+    Edit { cell, fact: words[2], present: words[3] == 1 }
 }
 
 fn record_response(file: &[u8], place: u64) -> Response {
@@ -147,13 +144,12 @@ fn check_response(task: &Task) -> Response {
     }
 }
 
-/// The request's words are a task and how many of its numbers are the table; the others are the room.
-fn list_response(words: &[u64], bytes: &[u8]) -> Option<Response> {
-    let (task, rest) = words.split_at(WORDS);
+/// So many of the numbers are the table; the others are the room.
+fn list_response(task: &Task, length: usize, bytes: &[u8]) -> Option<Response> {
     let numbers = numbers_of(bytes);
-    let (table, room) = numbers.split_at(rest[0] as usize);
+    let (table, room) = numbers.split_at(length);
     let mut room = room.to_vec();
-    let joined = list(&Task::from_words(task), table);
+    let joined = list(task, table);
     let length = joined.and_then(|list| lend(&list, &mut room));
     length_response(length.map_err(Stop::from), bytes_of(&room))
 }
@@ -167,11 +163,12 @@ fn length_response(length: Result<usize, Stop>, lent: Vec<u8>) -> Option<Respons
     }
 }
 
-/// Number, place, the new task or, refused, "the task it was given", and what was lent.
-fn task_response(given: &Task, result: Result<Task, Stop>, lent: Vec<u8>) -> Option<Response> {
+/// Number, place, the new task's words or, refused, "the task it was given": its words as they were, whatever they
+/// were and however many; and what was lent besides.
+fn task_response(given: &[u64], result: Result<Task, Stop>, lent: Vec<u8>) -> Option<Response> {
     match result {
         Ok(task) => Some(accepted(&task.words(), lent)),
-        Err(Stop::Refused(refusal)) => Some(refused(&refusal, &given.words(), lent)),
+        Err(Stop::Refused(refusal)) => Some(refused(&refusal, given, lent)),
         Err(Stop::TooDear) => None,
     }
 }

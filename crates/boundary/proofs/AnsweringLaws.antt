@@ -7,12 +7,13 @@ use native.Mathlib.Omega.{arith}
 use borrow.Author.Tests.{ltb-true, ltb-false}
 use lib.Dec.{ltb}
 use lib.ListN.{length, getD, drop}
-use Rattle.table.specs.Refusals.{roomTooShort}
 use Rattle.room.proofs.PlacingLaws.{placed-whole}
-use Rattle.boundary.specs.Answers.{Given, Answers}
+use Rattle.table.proofs.FlagLaws.{by-order}
+use Rattle.table.specs.Refusals.{accepted}
+use Rattle.boundary.specs.Answers.{answerTooShort, Given, Answers}
 
 module _ {n : ℕ} {Untouched : Type 0} {Told : List ℕ → Type 0} where
-  pub answers-short : {room : List ℕ} → length room < n → Untouched → Answers n Untouched Told room room roomTooShort
+  pub answers-short : {room : List ℕ} → length room < n → Untouched → Answers n Untouched Told room room answerTooShort
   answers-short h untouched = record { short = λ less. (refl, refl, untouched); given = λ enough. absurd (omega arith) }
 
   pub answers-given : {before after : List ℕ} {r : ℕ} (words : List ℕ) → n ≤ length before → Told words
@@ -23,6 +24,23 @@ module _ {n : ℕ} {Untouched : Type 0} {Told : List ℕ → Type 0} where
         let fits : length words ≤ length before = omega (arith, g .size) in
         (words, g .size, told, g .number, rw (g .size) at (placed-whole (record { next-is = refl; room-is = g .room-is }) fits));
   }
+
+  -- Where the call was refused, or not made: what follows of either way.
+  pub answers-refused : {Follows : Type 0} {before after : List ℕ} {r : ℕ} → Answers n Untouched Told before after r → (r ≡ accepted → ⊥)
+      → (Untouched → Follows) → ((words : List ℕ) → Told words → (getD words 0 0 ≡ accepted → ⊥) → Follows) → Follows
+  answers-refused {before = before} a refused short made =
+      by-order (length before) n (λ h. short (a .short h .2))
+      (λ h.
+      let x = a .given h in
+      made (x .0) (x .2) (λ e. refused (x .3 ∙ e)))
+
+  -- Where the call was made, and only these words are told.
+  pub answers-said : {before after : List ℕ} {r : ℕ} → Answers n Untouched Told before after r → n ≤ length before → (said : List ℕ)
+      → ((words : List ℕ) → Told words → words ≡ said) → (r ≡ getD said 0 0) × (after ≡ said ++ drop n before)
+  answers-said {before = before} a h said only =
+      let x = a .given h in
+      let e = only (x .0) (x .2) in
+      (x .3 ∙ ap (λ w. getD w 0 0) e, x .4 ∙ ap (λ w. w ++ drop n before) e)
 
 -- Where what is kept and what is told are each met in one way only, so is all that a call gives: the number returned,
 -- every word of the answer's room, and what else was lent (which `Kept` and `Told` are about).

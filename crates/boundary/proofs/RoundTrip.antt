@@ -13,6 +13,7 @@ use Rattle.table.specs.Sizes.{maxActions, maxSteps}
 use Rattle.table.specs.Tasks.{Shaped, formed, sizesFormed}
 use Rattle.table.specs.declared.Task.{Task}
 use Rattle.boundary.specs.Words.{stepIn, lastStep, taskWords, tableWords, masksAt, unpacked, taskIn, tableOut, runOut, taskOut}
+use Rattle.boundary.proofs.WordLaws.{task-length}
 
 -- A step that fits a byte is itself.
 step-tested : (w : ℕ) (b : Bool) → ltb w lastStep ≡ b → w ≤ lastStep → stepIn w ≡ w
@@ -101,15 +102,12 @@ module _ (t : Task) (s : Shaped t) where
       rw (at-steps, drop-at (to-run ++ middle) (t .run .steps) (tableWords + 3) (past middle 3 refl))
       (take-all maxSteps (t .run .steps) (omega (arith, s .steps)))
 
-  whole : length (taskOut t) ≡ taskWords
-  whole = ap length at-steps ∙ omega (arith, length-append (to-run ++ middle) (t .run .steps), past middle 3 refl, s .steps)
-
   -- Packing and unpacking: every task of the code is shaped, and its steps are bytes.
   pub unpack-pack : ((i : ℕ) → getD (t .run .steps) i 0 ≤ lastStep) → taskIn (taskOut t) ≡ t
   unfolding taskIn
   unpack-pack narrow =
       rw (
-        eq-eqb (length (taskOut t)) taskWords whole,
+        eq-eqb (length (taskOut t)) taskWords (task-length t s),
         word-of [] (t .table .facts) _ 0 (flat t) refl,
         word-of (t .table .facts ∷ []) (t .table .actions) _ 1 (flat t) refl,
         word-of (t .table .facts ∷ t .table .actions ∷ []) (t .table .limit) _ 2 (flat t) refl,

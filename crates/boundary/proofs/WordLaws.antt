@@ -8,7 +8,7 @@ use Rattle.table.specs.Tasks.{Shaped}
 use Rattle.table.specs.declared.Run.{Run}
 use Rattle.table.specs.declared.Table.{Table}
 use Rattle.table.specs.declared.Task.{Task}
-use Rattle.boundary.specs.Words.{tableWords, runWords, tableOut, runOut}
+use Rattle.boundary.specs.Words.{tableWords, runWords, taskWords, tableOut, runOut, taskOut}
 use Rattle.boundary.specs.Answers.{answerMost, taskAnswer}
 
 pub table-length : (t : Table) → length (t .needs) ≡ maxActions → length (t .adds) ≡ maxActions → length (t .deletes) ≡ maxActions
@@ -19,6 +19,11 @@ table-length t n a d = simp length-append (omega arith)
 pub run-length : (r : Run) → length (r .steps) ≡ maxSteps → length (runOut r) ≡ runWords
 unfolding runOut
 run-length r s = simp length-append (omega arith)
+
+pub task-length : (t : Task) → Shaped t → length (taskOut t) ≡ taskWords
+unfolding taskOut
+task-length t s =
+    simp length-append (omega (arith, table-length (t .table) (s .needs) (s .adds) (s .deletes), run-length (t .run) (s .steps)))
 
 pub answer-length : (number place : ℕ) (t : Task) → Shaped t → length (taskAnswer number place t) ≡ answerMost
 answer-length number place t s =

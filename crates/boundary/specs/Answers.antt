@@ -4,14 +4,21 @@ use mathlib.Core.Path.{_≡_}
 use Prim.Native.Nat.{ℕ, _+_, _<_, _≤_}
 use lib.ListN.{length, getD, drop}
 use Rattle.runcheck.specs.declared.Checked.{Checked}
-use Rattle.table.specs.Refusals.{roomTooShort}
 use Rattle.table.specs.declared.Reply.{Reply}
 use Rattle.table.specs.declared.Task.{Task}
 use Rattle.taskfile.specs.declared.record.Record.{Record}
 use Rattle.room.specs.Placing.{placed}
 use Rattle.boundary.specs.Words.{taskWords, tableOut, runOut}
 
--- How many words each kind of answer has; the number and the place are always the first two.
+-- The boundary's own number, outside the papers' (01's and 02's end at 23): the answer's room is too short, and nothing was called.
+-- So 11 is always the inner call's, about the room that it was lent, in 01's order.
+abbrev pub answerTooShort : ℕ
+answerTooShort = 255
+
+-- How many words each kind of answer has; the number and the place are always the first two, and of a call that changes the task all.
+abbrev pub changedLength : ℕ
+changedLength = 2
+
 abbrev pub replyLength : ℕ
 replyLength = 3
 
@@ -23,6 +30,9 @@ recordLength = 6
 
 abbrev pub answerMost : ℕ
 answerMost = 2 + taskWords
+
+abbrev pub changedWords : ℕ → ℕ → List ℕ
+changedWords number place = number ∷ place ∷ []
 
 abbrev pub replyWords : Reply → List ℕ
 replyWords y = y .number ∷ y .place ∷ y .length ∷ []
@@ -42,10 +52,11 @@ pub record Given (n : ℕ) (words before after : List ℕ) (r : ℕ) : Type 0 wh
   pub number : r ≡ getD words 0 0
   pub room-is : after ≡ placed before 0 words
 
--- The one rule. Where the room has fewer than n words, the call returns 11 and touches nothing: the room for the answer
--- is as it was, and `Untouched` says it of what else was lent. Otherwise it makes the call, places the n words that
--- `Told` says from the first on, nothing beside, and returns the first of them.
+-- The one rule. Where the room has fewer than n words, 255 is returned and nothing is called: the room for the answer is as
+-- it was, and `Untouched` says it of what else was lent. Otherwise the call is made, the n words that `Told` says are placed
+-- from the first on, nothing beside, and the first of them is returned. These n words are the one thing that a refused call
+-- writes.
 pub record Answers (n : ℕ) (Untouched : Type 0) (Told : List ℕ → Type 0) (before after : List ℕ) (r : ℕ) : Type 0 where
-  pub short : length before < n → (r ≡ roomTooShort) × (after ≡ before) × Untouched
+  pub short : length before < n → (r ≡ answerTooShort) × (after ≡ before) × Untouched
   pub given : n ≤ length before
       → (words : List ℕ) × (length words ≡ n) × Told words × (r ≡ getD words 0 0) × (after ≡ words ++ drop n before)

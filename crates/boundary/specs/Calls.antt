@@ -7,7 +7,7 @@ use Rattle.change.specs.declared.Applied.{Applied}
 use Rattle.listing.specs.Listing.{ListsInto}
 use Rattle.runcheck.specs.OpenNeeds.{checked}
 use Rattle.session.specs.Calls.{Opens, Edits, listed}
-use Rattle.session.specs.Replays.{editOf}
+use Rattle.session.specs.EditNumbers.{editOf}
 use Rattle.session.specs.declared.Edited.{Edited}
 use Rattle.solve.specs.Solving.{Solves}
 use Rattle.table.specs.Outcomes.{Outcome}
@@ -16,8 +16,8 @@ use Rattle.taskfile.specs.Reading.{ReadsFile}
 use Rattle.taskfile.specs.Records.{recordAt}
 use Rattle.taskfile.specs.declared.TaskRead.{TaskRead}
 use Rattle.taskwriter.specs.Writing.{written}
-use Rattle.boundary.specs.Words.{taskIn}
-use Rattle.boundary.specs.Answers.{Answers, replyLength, checkedLength, recordLength, answerMost, replyWords, checkedWords, recordWords, taskAnswer}
+use Rattle.boundary.specs.Words.{taskIn, lentBack}
+use Rattle.boundary.specs.Answers.{Answers, changedLength, replyLength, checkedLength, recordLength, answerMost, changedWords, replyWords, checkedWords, recordWords, taskAnswer}
 
 -- Nothing but the room for the answer is lent to be written.
 abbrev pub Nothing : Type 0
@@ -46,10 +46,13 @@ WritesTask ws room after = AnswersOutcome room after (λ o. o ≡ written (taskI
 unfoldable pub ChecksRun : List ℕ → List ℕ → List ℕ → ℕ → Type 0
 ChecksRun ws = Answers checkedLength Nothing (λ words. words ≡ checkedWords (checked (taskIn ws)))
 
-unfoldable pub AppliesList : List ℕ → List ℕ → List ℕ → List ℕ → ℕ → Type 0
-AppliesList ws list =
-    Answers answerMost Nothing
-    (λ words. (y : Applied) × Applies (taskIn ws) list y × (words ≡ taskAnswer (y .number) (y .place) (y .task)))
+-- The task's words are ws before the call and `left` after it.
+unfoldable pub AppliesList : List ℕ → List ℕ → List ℕ → List ℕ → List ℕ → ℕ → Type 0
+AppliesList ws left list =
+    Answers changedLength (left ≡ ws)
+    (λ words.
+    (y : Applied) × (Applies (taskIn ws) list y × (left ≡ lentBack ws (y .number) (y .task))) ×
+    (words ≡ changedWords (y .number) (y .place)))
 
 unfoldable pub SolvesTask : List ℕ → List ℕ → List ℕ → List ℕ → List ℕ → ℕ → Type 0
 SolvesTask ws room after = AnswersOutcome room after (Solves (taskIn ws) room)
@@ -57,12 +60,13 @@ SolvesTask ws room after = AnswersOutcome room after (Solves (taskIn ws) room)
 unfoldable pub OpensSession : List ℕ → List ℕ → List ℕ → List ℕ → List ℕ → ℕ → Type 0
 OpensSession ws table after = AnswersReply table after (λ y. Opens (taskIn ws) table y after)
 
-unfoldable pub EditsSession : List ℕ → ℕ → ℕ → ℕ → ℕ → List ℕ → List ℕ → List ℕ → List ℕ → ℕ → Type 0
-EditsSession ws kind action fact present table after =
-    Answers answerMost (after ≡ table)
+unfoldable pub EditsSession : List ℕ → List ℕ → ℕ → ℕ → ℕ → ℕ → List ℕ → List ℕ → List ℕ → List ℕ → ℕ → Type 0
+EditsSession ws left kind action fact present table after =
+    Answers changedLength ((left ≡ ws) × (after ≡ table))
     (λ words.
-    (y : Edited) × Edits (taskIn ws) table (editOf kind action fact present) y after ×
-    (words ≡ taskAnswer (y .number) (y .place) (y .task)))
+    (y : Edited) ×
+    (Edits (taskIn ws) table (editOf kind action fact present) y after × (left ≡ lentBack ws (y .number) (y .task))) ×
+    (words ≡ changedWords (y .number) (y .place)))
 
 unfoldable pub ListsSession : List ℕ → List ℕ → List ℕ → List ℕ → List ℕ → List ℕ → ℕ → Type 0
 ListsSession ws table room after = AnswersOutcome room after (λ o. o ≡ listed (taskIn ws) table room)

@@ -4,6 +4,7 @@ use mathlib.Core.List.{List, [], _∷_, _++_, map}
 use Prim.Native.Nat.{ℕ, _+_, _*_}
 use lib.Dec.{eqb, ltb}
 use lib.ListN.{length, getD, take, drop}
+use Rattle.table.specs.Refusals.{accepted}
 use Rattle.table.specs.Sizes.{maxActions, maxSteps}
 use Rattle.table.specs.declared.Run.{Run}
 use Rattle.table.specs.declared.Table.{Table}
@@ -65,3 +66,7 @@ runOut r = (r .start ∷ r .goal ∷ r .count ∷ []) ++ r .steps
 
 unfoldable pub taskOut : Task → List ℕ
 taskOut t = tableOut (t .table) ++ runOut (t .run)
+
+-- A task lent in and out: the new task's words where the call was accepted, and otherwise the words as they were, whatever they were.
+unfoldable pub lentBack : List ℕ → ℕ → Task → List ℕ
+lentBack ws number t = cond {A = List ℕ} (eqb number accepted) (taskOut t) ws

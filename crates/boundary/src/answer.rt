@@ -1,5 +1,6 @@
-// Answers into lent words, from the first word on: the number and the place first, then what the call gives. Past the
-// room a word is only counted, so that none of these functions asks anything of the room.
+// Answers into lent words, from the first word on: the number and the place first, then what the call gives; and a
+// changed task into the words that it was lent in. Past the room a word is only counted, so that none of these functions
+// asks anything of the answer's room.
 use runcheck::Checked;
 use table::ACTIONS;
 use table::Reply;
@@ -7,16 +8,24 @@ use table::Run;
 use table::STEPS;
 use table::Table;
 use table::Task;
+use table::refusals::ACCEPTED;
 use taskfile::record::Record;
 ghost use mathlib.Core.List.{[], _∷_};
 ghost use mathlib.Core.Path.{_≡_};
 ghost use Prim.Native.Nat.{_+_, _<_, _≤_};
+ghost use lib.ListN.{length};
+ghost use Rattle.table.specs.Refusals.{accepted};
 ghost use Rattle.table.specs.Sizes.{maxActions, maxSteps};
 ghost use Rattle.room.specs.Placing.{lastPlace, Placed};
-ghost use Rattle.boundary.specs.Words.{tableOut, runOut, tableWords, runWords};
-ghost use Rattle.boundary.specs.Answers.{answerMost, replyLength, checkedLength, recordLength, Given, checkedWords, recordWords, replyWords, taskAnswer};
+ghost use Rattle.boundary.specs.Words.{tableOut, runOut, tableWords, runWords, taskWords, lentBack};
+ghost use Rattle.boundary.specs.Answers.{answerMost, changedLength, replyLength, checkedLength, recordLength, Given, changedWords, checkedWords, recordWords, replyWords, taskAnswer};
+
+// The boundary's own number: the answer's room is too short, and nothing was called.
+pub const ANSWER_TOO_SHORT: usize = 255;
 
 // How many words each answer has.
+pub const CHANGED_WORDS: usize = 2;
+
 pub const REPLY_WORDS: usize = 3;
 
 pub const CHECKED_WORDS: usize = 5;
@@ -102,7 +111,28 @@ fn put_run(answer: &mut [u64], at: usize, run: Run) -> usize
     put_steps(answer, next, steps)
 }
 
+// A task lent in and out: the changed task's words where the call was accepted, and otherwise the words as they were.
+pub(crate) fn give_back(number: usize, changed: Task, task: &mut [u64])
+    requires { ⌜ (number ≡ accepted → length (now task) ≡ taskWords) ⌝ }
+    ensures { λ _. ⌜ now (task .exit) ≡ lentBack (now (task .entry)) number changed ⌝ }
+{
+    if number != ACCEPTED {
+        return;
+    }
+    let table = changed.table;
+    let run = changed.run;
+    let next = put_table(task, 0, table);
+    put_run(task, next, run);
+}
+
 // Each of these answers with the number again, for the caller to return.
+pub(crate) fn give_changed(number: usize, place: usize, answer: &mut [u64]) -> usize
+    ensures { λ r. ⌜ Given changedLength (changedWords number place) (now (answer .entry)) (now (answer .exit)) r ⌝ }
+{
+    put_two(answer, 0, number as u64, place as u64);
+    number
+}
+
 pub(crate) fn give_task(number: usize, place: usize, task: Task, answer: &mut [u64]) -> usize
     ensures { λ r. ⌜ Given answerMost (taskAnswer number place task) (now (answer .entry)) (now (answer .exit)) r ⌝ }
 {

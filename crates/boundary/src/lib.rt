@@ -1,13 +1,17 @@
 // The boundary: every public call as an `extern "C"` function on numbers and slices, for callers in C and in Rust
-// (docs/BOUNDARY.md). A task crosses as 166 words, an answer as words in lent room; where that room is too short the
-// call answers 11 and touches nothing.
+// (docs/BOUNDARY.md). A task crosses as 166 words, an answer as words in lent room; where that room is too short nothing
+// is called, and the answer is 255. A task that a call changes is lent in and out.
 mod answer;
 mod words;
 
+use answer::ANSWER_TOO_SHORT;
+use answer::CHANGED_WORDS;
 use answer::CHECKED_WORDS;
 use answer::RECORD_WORDS;
 use answer::REPLY_WORDS;
 use answer::TASK_ANSWER_WORDS;
+use answer::give_back;
+use answer::give_changed;
 use answer::give_checked;
 use answer::give_record;
 use answer::give_reply;
@@ -16,11 +20,10 @@ use change::apply::apply;
 use listing::listing;
 use runcheck::check_run;
 use session::edit;
+use session::edits::edit_of;
 use session::list;
 use session::open;
-use session::replay::edit_of;
 use solve::solve;
-use table::refusals::ROOM_TOO_SHORT;
 use taskfile::read;
 use taskfile::record::record_at;
 use taskwriter::write;
@@ -33,7 +36,7 @@ pub extern "C" fn zp_record(file: &[u8], at: usize, answer: &mut [u64]) -> usize
     ensures { λ r. ⌜ HandsRecord (now (file .entry)) at (now (answer .entry)) (now (answer .exit)) r ⌝ }
 {
     if answer.len() < RECORD_WORDS {
-        return ROOM_TOO_SHORT;
+        return ANSWER_TOO_SHORT;
     }
     let found = record_at(file, at);
     give_record(found, answer)
@@ -45,7 +48,7 @@ pub extern "C" fn zp_read(file: &[u8], answer: &mut [u64]) -> usize
     ensures { λ r. ⌜ ReadsTask (now (file .entry)) (now (answer .entry)) (now (answer .exit)) r ⌝ }
 {
     if answer.len() < TASK_ANSWER_WORDS {
-        return ROOM_TOO_SHORT;
+        return ANSWER_TOO_SHORT;
     }
     let found = read(file);
     let task = found.task;
@@ -59,7 +62,7 @@ pub extern "C" fn zp_write(task: &[u64], room: &mut [u8], answer: &mut [u64]) ->
         ⌜ WritesTask (now (task .entry)) (now (room .entry)) (now (room .exit)) (now (answer .entry)) (now (answer .exit)) r ⌝ }
 {
     if answer.len() < REPLY_WORDS {
-        return ROOM_TOO_SHORT;
+        return ANSWER_TOO_SHORT;
     }
     let t = task_in(task);
     let reply = write(t, room);
@@ -72,25 +75,27 @@ pub extern "C" fn zp_check(task: &[u64], answer: &mut [u64]) -> usize
     ensures { λ r. ⌜ ChecksRun (now (task .entry)) (now (answer .entry)) (now (answer .exit)) r ⌝ }
 {
     if answer.len() < CHECKED_WORDS {
-        return ROOM_TOO_SHORT;
+        return ANSWER_TOO_SHORT;
     }
     let t = task_in(task);
     let found = check_run(t);
     give_checked(found, answer)
 }
 
-// A list of repair numbers applied at once.
+// A list of repair numbers applied at once to the task's words.
 #[no_mangle]
-pub extern "C" fn zp_apply(task: &[u64], list: &[u16], answer: &mut [u64]) -> usize
-    ensures { λ r. ⌜ AppliesList (now (task .entry)) (now (list .entry)) (now (answer .entry)) (now (answer .exit)) r ⌝ }
+pub extern "C" fn zp_apply(task: &mut [u64], list: &[u16], answer: &mut [u64]) -> usize
+    ensures { λ r.
+        ⌜ AppliesList (now (task .entry)) (now (task .exit)) (now (list .entry)) (now (answer .entry)) (now (answer .exit)) r ⌝ }
 {
-    if answer.len() < TASK_ANSWER_WORDS {
-        return ROOM_TOO_SHORT;
+    if answer.len() < CHANGED_WORDS {
+        return ANSWER_TOO_SHORT;
     }
     let t = task_in(task);
     let done = apply(t, list);
     let repaired = done.task;
-    give_task(done.number, done.place, repaired, answer)
+    give_back(done.number, repaired, task);
+    give_changed(done.number, done.place, answer)
 }
 
 // The least repair list into lent room.
@@ -100,7 +105,7 @@ pub extern "C" fn zp_solve(task: &[u64], room: &mut [u16], answer: &mut [u64]) -
         ⌜ SolvesTask (now (task .entry)) (now (room .entry)) (now (room .exit)) (now (answer .entry)) (now (answer .exit)) r ⌝ }
 {
     if answer.len() < REPLY_WORDS {
-        return ROOM_TOO_SHORT;
+        return ANSWER_TOO_SHORT;
     }
     let t = task_in(task);
     let reply = solve(t, room);
@@ -114,17 +119,17 @@ pub extern "C" fn zp_open(task: &[u64], table: &mut [u16], answer: &mut [u64]) -
         ⌜ OpensSession (now (task .entry)) (now (table .entry)) (now (table .exit)) (now (answer .entry)) (now (answer .exit)) r ⌝ }
 {
     if answer.len() < REPLY_WORDS {
-        return ROOM_TOO_SHORT;
+        return ANSWER_TOO_SHORT;
     }
     let t = task_in(task);
     let reply = open(t, table);
     give_reply(reply, answer)
 }
 
-// One cell set, and its fact's row written afresh.
+// One cell set in the task's words, and its fact's row written afresh.
 #[no_mangle]
 pub extern "C" fn zp_edit(
-    task: &[u64],
+    task: &mut [u64],
     kind: usize,
     action: usize,
     fact: usize,
@@ -133,17 +138,18 @@ pub extern "C" fn zp_edit(
     answer: &mut [u64],
 ) -> usize
     ensures { λ r.
-        ⌜ EditsSession (now (task .entry)) kind action fact present (now (table .entry)) (now (table .exit))
+        ⌜ EditsSession (now (task .entry)) (now (task .exit)) kind action fact present (now (table .entry)) (now (table .exit))
         (now (answer .entry)) (now (answer .exit)) r ⌝ }
 {
-    if answer.len() < TASK_ANSWER_WORDS {
-        return ROOM_TOO_SHORT;
+    if answer.len() < CHANGED_WORDS {
+        return ANSWER_TOO_SHORT;
     }
     let t = task_in(task);
     let e = edit_of(kind, action, fact, present);
     let done = edit(t, table, e);
     let edited = done.task;
-    give_task(done.number, done.place, edited, answer)
+    give_back(done.number, edited, task);
+    give_changed(done.number, done.place, answer)
 }
 
 // The list of a session table into lent room.
@@ -159,7 +165,7 @@ pub extern "C" fn zp_list(
         (now (answer .entry)) (now (answer .exit)) r ⌝ }
 {
     if answer.len() < REPLY_WORDS {
-        return ROOM_TOO_SHORT;
+        return ANSWER_TOO_SHORT;
     }
     let t = task_in(task);
     let reply = list(t, table, room);
@@ -173,7 +179,7 @@ pub extern "C" fn zp_listing(input: &[u8], room: &mut [u8], answer: &mut [u64]) 
         ⌜ ListsInput (now (input .entry)) (now (room .entry)) (now (room .exit)) (now (answer .entry)) (now (answer .exit)) r ⌝ }
 {
     if answer.len() < REPLY_WORDS {
-        return ROOM_TOO_SHORT;
+        return ANSWER_TOO_SHORT;
     }
     let reply = listing(input, room);
     give_reply(reply, answer)

@@ -6,7 +6,7 @@ use crate::file::file_of;
 use crate::protocol::{Call, Request, Response, CALLS};
 use crate::reference::Means;
 use crate::session::ROW;
-use crate::task::{Task, WORDS};
+use crate::task::Task;
 
 /// Which case a request belongs to.
 #[derive(Clone, Copy, PartialEq, Eq, Debug)]
@@ -43,7 +43,7 @@ impl fmt::Display for Difference {
 
 impl Difference {
     fn task(&self) -> Option<Task> {
-        self.request.words.get(..WORDS).map(Task::from_words)
+        self.request.task_words().map(Task::from_words)
     }
 
     /// The file that the request speaks of: its task's, or the bytes it lends. A malformed task has none.
@@ -58,7 +58,7 @@ impl Difference {
     /// The words that the file does not say: those after a well-formed task, or all.
     fn other_words(&self) -> &[u64] {
         match self.task() {
-            Some(task) if task.well_formed() => &self.request.words[WORDS..],
+            Some(task) if task.well_formed() => self.request.more_words(),
             _ => &self.request.words,
         }
     }

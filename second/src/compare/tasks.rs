@@ -184,12 +184,17 @@ const START_WORD: usize = CELL_WORDS + 3 * MOST_ACTIONS;
 const COUNT_WORD: usize = START_WORD + 2;
 const STEP_WORDS: usize = COUNT_WORD + 1;
 
-/// The words of a task that is not well formed for one reason; sometimes several, sometimes random words altogether.
+/// The words of a task that is not well formed for one reason; sometimes several, sometimes random words altogether,
+/// sometimes another number of words.
 pub fn malformed(task: &Task, random: &mut Random) -> Vec<u64> {
     if random.chance(1) {
         return (0..WORDS).map(|_| random.next()).collect();
     }
     let mut words = task.words();
+    if random.chance(3) {
+        words.resize(random.pick(&[0, 1, WORDS - 1, WORDS + 1, 2 * WORDS]), random.next());
+        return words;
+    }
     while Task::from_words(&words).well_formed() || random.chance(2) {
         spoil(&mut words, task, random);
     }

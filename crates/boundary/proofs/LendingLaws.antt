@@ -1,0 +1,68 @@
+-- A task lent in and out: when its words are written, and that the new task then fills them. Assumes nothing.
+use mathlib.Core.Bool.{Bool, true, false}
+use mathlib.Core.List.{List, _++_, append-nil}
+use mathlib.Core.Path.{_≡_, refl, sym, ap, _∙_}
+use Prim.Native.Nat.{ℕ}
+use native.Mathlib.Omega.{arith}
+use borrow.Author.Tests.{eq-eqb, ne-eqb, eqb-true, eqb-false}
+use lib.Dec.{eqb}
+use lib.ListN.{length, drop, drop-of-length-le}
+use Rattle.change.proofs.ApplyLaws.{applies-unformed, applies-unique}
+use Rattle.change.specs.Applying.{Applies}
+use Rattle.change.specs.declared.Applied.{Applied}
+use Rattle.change.specs.declared.Edit.{Edit}
+use Rattle.room.proofs.PlacingLaws.{placed-whole}
+use Rattle.room.specs.Placing.{Placed}
+use Rattle.session.proofs.CallLaws.{edit-malformed}
+use Rattle.session.specs.Calls.{Edits}
+use Rattle.session.specs.declared.Edited.{Edited}
+use Rattle.table.specs.Refusals.{Refusal, accepted}
+use Rattle.table.specs.Tasks.{Shaped, formed}
+use Rattle.table.specs.declared.Task.{Task}
+use Rattle.boundary.specs.Words.{taskWords, taskIn, tableOut, runOut, taskOut, lentBack}
+use Rattle.boundary.proofs.RoundTrip.{other-length}
+use Rattle.boundary.proofs.WordLaws.{task-length}
+
+module _ (ws : List ℕ) (number : ℕ) (t : Task) where
+  -- A refused call leaves the words as they were.
+  pub lent-back-kept : (number ≡ accepted → ⊥) → lentBack ws number t ≡ ws
+  unfolding lentBack
+  lent-back-kept h = rw (ne-eqb number accepted h)
+
+  -- An accepted one has filled all of them.
+  pub lent-back-filled : {after : List ℕ} {next : ℕ} → number ≡ accepted → length ws ≡ taskWords → Shaped t
+      → Placed ws after 0 next (tableOut (t .table) ++ runOut (t .run)) → after ≡ lentBack ws number t
+  unfolding lentBack taskOut
+  lent-back-filled h whole s p =
+      let full = task-length t s in
+      rw (eq-eqb number accepted h)
+      (placed-whole p (omega arith) ∙
+      ap (λ l. taskOut t ++ l) (drop-of-length-le ws {i = length (tableOut (t .table) ++ runOut (t .run))} (omega arith)) ∙ append-nil (taskOut t))
+
+-- Only 166 words are a well-formed task.
+formed-length : (ws : List ℕ) → formed (taskIn ws) ≡ true → length ws ≡ taskWords
+formed-length ws h = pick (eqb (length ws) taskWords) refl
+  where
+    pick : (b : Bool) → eqb (length ws) taskWords ≡ b → length ws ≡ taskWords
+    pick true e = eqb-true (length ws) taskWords e
+    pick false e =
+        let other : false ≡ true = sym (other-length ws (eqb-false (length ws) taskWords e)) ∙ h in
+        let clash : _≡_ {A = ℕ} 0 1 = cc in
+        absurd (omega arith)
+
+-- So there are 166 words where the list was applied, and where the edit was made.
+pub applied-length : (ws list : List ℕ) (y : Applied) → Applies (taskIn ws) list y → y .number ≡ accepted → length ws ≡ taskWords
+applied-length ws list y a ok = pick (formed (taskIn ws)) refl
+  where
+    pick : (b : Bool) → formed (taskIn ws) ≡ b → length ws ≡ taskWords
+    pick true e = formed-length ws e
+    pick false e =
+        absurd (omega (arith, ap (λ (q : Applied). q .number) (applies-unique (taskIn ws) list y _ a (applies-unformed (taskIn ws) list e))))
+
+pub edited-length : (ws table : List ℕ) (e : Edit) (y : Edited) (after : List ℕ) → Edits (taskIn ws) table e y after → y .number ≡ accepted
+    → length ws ≡ taskWords
+edited-length ws table e y after a ok = pick (formed (taskIn ws)) refl
+  where
+    pick : (b : Bool) → formed (taskIn ws) ≡ b → length ws ≡ taskWords
+    pick true h = formed-length ws h
+    pick false h = absurd (omega (arith, a .number, ap (λ (q : Refusal). q .number) (edit-malformed (taskIn ws) table e h)))
