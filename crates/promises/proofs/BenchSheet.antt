@@ -8,6 +8,7 @@ use Prim.Native.String.{String}
 use lib.Dec.{ltb}
 use lib.ListN.{length}
 use borrow.Author.Tests.{ltb-true}
+use Rattle.change.proofs.EditLaws.{edited-exactly, edited-only}
 use Rattle.change.specs.Editing.{edited, cellSet, cellInside}
 use Rattle.change.specs.declared.Edit.{Edit}
 use Rattle.facts.specs.Sets.{has, within, joined, removed, only}
@@ -18,18 +19,20 @@ use Rattle.listing.specs.Text.{textOf, readText, line, each, digits}
 use Rattle.runcheck.specs.OpenNeeds.{openNeeds, checked, openReport, totalOpen, firstOpen, lowestOpen, openAt, isOpen}
 use Rattle.runcheck.specs.declared.Checked.{Checked}
 use Rattle.session.proofs.CallLaws.{edit-clear}
-use Rattle.session.proofs.Demand3.{demand-3}
-use Rattle.session.specs.Calls.{listed, told-all, then, madeBy, names}
+use Rattle.session.proofs.Demand3.{story-ends, ends-solved}
+use Rattle.session.specs.Calls.{listed, told-all, then, names}
 use Rattle.solve.proofs.SolveLaws.{solves-malformed}
 use Rattle.solve.specs.Solving.{told, Solves}
 use Rattle.table.specs.Outcomes.{Outcome, refused, given}
 use Rattle.table.proofs.Formation.{well-formed}
-use Rattle.table.specs.Answer.{Verdict, found}
-use Rattle.table.specs.Bench.{listingTask, strayTask, goalsAtStart, goalOutOfReach, addsAndDeletes, deletesTheGoal, needsLastFact, pairSteps, pairs}
+use Rattle.table.proofs.Worked.{worked}
+use Rattle.table.specs.Deciding.{isRight, isShaped}
+use Rattle.table.specs.Answer.{Verdict, found, over, hopeless}
+use Rattle.table.specs.Bench.{listingTask, limited, strayTask, goalsAtStart, goalOutOfReach, addsAndDeletes, deletesTheGoal, needsLastFact, pairSteps, pairs}
 use Rattle.table.specs.Counting.{sumBelow, countBelow, firstWhere, everyBelow, someBelow}
 use Rattle.table.specs.Join.{isHopeless, isOver, foundList, joinLists, joinVerdicts}
 use Rattle.table.specs.Order.{isIn}
-use Rattle.table.specs.Refusals.{firstOf, bytesAfterEnd, notWellFormed}
+use Rattle.table.specs.Refusals.{firstOf}
 use Rattle.table.specs.Repairs.{permits, permitted, chosen}
 use Rattle.table.specs.Sizes.{maxFacts}
 use Rattle.table.specs.Strips.{stateAt}
@@ -42,8 +45,9 @@ use Rattle.taskfile.specs.Format.{isKind, isCellKind, isFactKind, bodyLength}
 use Rattle.taskfile.specs.Reading.{ReadsFile, refusedRead, acceptedRead, noTask, bodyAt, misplaced, sizesWrong, outside, disordered, faultsAt, tableAfter, runAfter, seenAfter}
 use Rattle.taskfile.specs.declared.TaskRead.{TaskRead}
 use Rattle.promises.proofs.CertificateLaws.{certified-well, certified-only}
-use Rattle.promises.specs.Certificates.{isRight, isRightWith, mends, certifies, certified, ofFact, partsOf}
-use Rattle.promises.specs.Sheet.{reads, lists, checks, solves, edits, Holds, AllHold, all, _and_, deleteAbsent, untouched, listingText, refusedText, sheet, figures}
+use Rattle.promises.specs.Determined.{Only}
+use Rattle.promises.specs.Certificates.{isRightWith, mends, certifies, certified, ofFact, partsOf}
+use Rattle.promises.specs.Sheet.{reads, lists, checks, solves, refuses, works-later, edits, Holds, AllHold, all, _and_, deleteAbsent, untouched, listingText, refusedText, sheet, stepsOf, refusalFiles, figures}
 
 -- ---- what is enough for a row of each kind
 
@@ -54,9 +58,16 @@ read-row s n r e computed = let a = subst (ReadsFile s) computed (reads-total s)
 check-row : (t : Task) (c : Checked) → checked t ≡ c → Holds (checks t c)
 check-row t c e = record { allowed = sym e; others = λ q a. a ∙ e }
 
--- By the verdicts of its single facts, the parts of a list or hopeless each, whose join is this one.
-solve-row : (t : Task) (v : Verdict) → certified t (partsOf v) ≡ true → joinVerdicts (partsOf v) (t .table .facts) (t .table .limit) ≡ v → Holds (solves t v)
-solve-row t v sound joins = certified-only t (partsOf v) sound v joins
+-- By the verdicts of its single facts, the parts of a list or hopeless each, whose join is the task's.
+solve-row : (t : Task) (l : List ℕ) → certified t (partsOf (found l)) ≡ true
+    → joinVerdicts (partsOf (found l)) (t .table .facts) (t .table .limit) ≡ found l → Holds (solves t l)
+unfolding told
+solve-row t l sound joins = certified-only t (partsOf (found l)) sound (found l) joins
+
+-- Refused as over the limit, or as hopeless.
+refuse-row : (t : Task) (v : Verdict) (parts : ℕ → Verdict) (n : ℕ) → certified t parts ≡ true → joinVerdicts parts (t .table .facts) (t .table .limit) ≡ v
+    → ((room : List ℕ) → told v room ≡ refused n room) → Holds (refuses t n)
+refuse-row t v parts n sound joins tells room = subst (Only (Solves t room)) (tells room) (certified-only t parts sound v joins room)
 
 -- By what reading the file, checking its run and solving it give.
 list-row : (file : List ℕ) (text : String) (r : TaskRead) (c : Checked) (o : Outcome) → readFile file ≡ r → checked (r .task) ≡ c
@@ -76,63 +87,93 @@ list-row file text r c o computed check solve e room =
     record { allowed = done; others = λ q also. listing-unique also done }
 
 -- By demand 3: a listing after the edit tells what a fresh solve of the edited task tells.
-edit-row : (t : Task) (e : Edit) (v : Verdict) (kept : ℕ) → WellFormed t → cellInside t (e .cell) ≡ true → edited t e ≡ madeBy t (e ∷ [])
-    → names t (e ∷ []) kept ≡ false → ltb kept maxFacts ≡ true → Holds (solves (edited t e) v) → Holds (edits t e v kept)
-edit-row t e v kept w inside made unnamed low fresh s₀ s after r₀ r opening accepts editing =
-    let done = demand-3 t w s₀ s r₀ opening accepts (e ∷ []) (r .task) after (then editing told-all) in
-    let clear = edit-clear t s e (well-formed t w) (opening .opened accepts .1 .places) inside in
-    let task = done .task ∙ sym made in (
-      editing .number ∙ ap (λ (x : _). x .number) clear,
+edit-row : (t : Task) (e : Edit) (l : List ℕ) (kept : ℕ) → WellFormed t → cellInside t (e .cell) ≡ true
+    → names t (e ∷ []) kept ≡ false → ltb kept maxFacts ≡ true → Holds (solves (edited t e) l) → Holds (edits t e l kept)
+edit-row t e l kept w inside unnamed low fresh s₀ s after r₀ r opening accepts editing =
+    let stored = opening .opened accepts .1 in
+    let done = story-ends t s (e ∷ []) (r .task) after w stored (then editing told-all) in
+    let accepted = editing .number ∙ ap (λ (x : _). x .number) (edit-clear t s e (well-formed t w) (stored .places) inside) in
+    let task = edited-only t e (r .task) (edited t e) (editing .accepted accepted .0) (edited-exactly t e w inside) in (
+      accepted,
       λ room.
-          done .listing room (listed (r .task) after room) (told v room) refl
-          (subst (λ (u : Task). Solves u room (told v room)) (sym task) (fresh room .allowed)),
+          ends-solved done room (listed (r .task) after room) (given l room) refl
+          (subst (λ (u : Task). Solves u room (given l room)) (sym task) (fresh room .allowed)),
       done .kept kept (ltb-true kept maxFacts low) unnamed,
     )
 
 -- ---- the sheet, and the sources' examples
 
 -- The list of case 2.
-abbrev pair : Verdict
-pair = found (97 ∷ 224 ∷ [])
+abbrev pair : List ℕ
+pair = 97 ∷ 224 ∷ []
 
-listing-text : bytesOf listingText ≡ textOf (acceptedRead listingTask) (openNeeds 2 3 1) (told pair answerRoom)
-unfolding told given textOf readText line each digits
+-- What is told of no list.
+over-told : (room : List ℕ) → told over room ≡ refused 10 room
+unfolding told
+over-told room = refl
+
+hopeless-told : (room : List ℕ) → told hopeless room ≡ refused 9 room
+unfolding told
+hopeless-told room = refl
+
+listing-text : bytesOf listingText ≡ textOf (acceptedRead listingTask) (openNeeds 2 3 1) (given pair answerRoom)
+unfolding given textOf readText line each digits
 listing-text = refl
 
-refused-text : (c : Checked) (o : Outcome) → bytesOf refusedText ≡ textOf (refusedRead bytesAfterEnd 36) c o
+refused-text : (c : Checked) (o : Outcome) → bytesOf refusedText ≡ textOf (refusedRead 8 36) c o
 unfolding textOf readText line each digits
 refused-text c o = refl
 
--- Both lists under one, so that what is computed is named once.
-computed : AllHold sheet × AllHold figures
-unfolding readFile readFrom faultsAt firstOf isKind isCellKind isFactKind bodyLength bodyAt misplaced sizesWrong outside disordered tableAfter runAfter seenAfter checked openReport totalOpen firstOpen lowestOpen openAt isOpen sumBelow countBelow firstWhere pairSteps certified certifies mends isRightWith isRight ofFact formed sizesFormed actionFormed maskFormed stepFormed everyBelow cellsOf courseOf stateAt permitted permits chosen isIn has within joined removed only cellSet joinVerdicts joinLists someBelow isHopeless isOver foundList cellInside madeBy names
+-- 7: "32 works too, and comes later"
+later-row : Holds (works-later deletesTheGoal (32 ∷ []) (0 ∷ []))
+later-row = (worked .row-7 .1, worked .row-7 .2)
+
+-- All lists under one, so that what is computed is named once.
+computed : AllHold sheet × AllHold refusalFiles × AllHold figures
+unfolding readFile readFrom faultsAt firstOf isKind isCellKind isFactKind bodyLength bodyAt misplaced sizesWrong outside disordered tableAfter runAfter seenAfter checked openReport totalOpen firstOpen lowestOpen openAt isOpen sumBelow countBelow firstWhere pairSteps stepsOf certified certifies mends isRightWith isRight isShaped ofFact formed sizesFormed actionFormed maskFormed stepFormed everyBelow cellsOf courseOf stateAt permitted permits chosen isIn has within joined removed only cellSet joinVerdicts joinLists someBelow isHopeless isOver foundList cellInside names
 computed = (
   read-row _ _ _ refl refl and
       read-row _ _ _ refl refl and
       check-row listingTask _ refl and
       solve-row _ _ refl refl and
       list-row _ listingText (acceptedRead listingTask) _ _ refl refl (solve-row listingTask pair refl refl answerRoom .allowed) listing-text and
-      certified-only _ (partsOf pair) refl _ refl and
+      refuse-row (limited 1) over (partsOf (found pair)) 10 refl refl over-told and
       solve-row _ _ refl refl and
       check-row goalsAtStart _ refl and
       solve-row _ _ refl refl and
       check-row goalOutOfReach _ refl and
-      solve-row _ _ refl refl and
+      refuse-row goalOutOfReach hopeless (partsOf hopeless) 9 refl refl hopeless-told and
       check-row addsAndDeletes _ refl and
       solve-row _ _ refl refl and
       check-row deletesTheGoal _ refl and
       solve-row _ _ refl refl and
+      later-row and
       check-row needsLastFact _ refl and
       solve-row _ _ refl refl and
-      edit-row listingTask deleteAbsent _ untouched (certified-well listingTask (partsOf pair) refl) refl refl refl refl (solve-row _ _ refl refl) and
+      edit-row listingTask deleteAbsent _ untouched (certified-well listingTask (partsOf (found pair)) refl) refl refl refl (solve-row _ _ refl refl) and
       read-row _ _ _ refl refl and
       read-row _ _ _ refl refl and
-      list-row _ refusedText (refusedRead bytesAfterEnd 36) _ (refused notWellFormed answerRoom) refl refl
+      list-row _ refusedText (refusedRead 8 36) _ (refused 12 answerRoom) refl refl
       (solves-malformed noTask answerRoom _ refl refl) (refused-text _ _) and
       read-row _ _ _ refl refl and
       check-row strayTask _ refl and
       check-row (pairs 6) _ refl and
       check-row (pairs 7) _ refl and
+      all,
+  read-row _ _ _ refl refl and
+      read-row _ _ _ refl refl and
+      read-row _ _ _ refl refl and
+      read-row _ _ _ refl refl and
+      read-row _ _ _ refl refl and
+      read-row _ _ _ refl refl and
+      read-row _ _ _ refl refl and
+      read-row _ _ _ refl refl and
+      read-row _ _ _ refl refl and
+      read-row _ _ _ refl refl and
+      read-row _ _ _ refl refl and
+      read-row _ _ _ refl refl and
+      read-row _ _ _ refl refl and
+      read-row _ _ _ refl refl and
       all,
   solve-row _ _ refl refl and solve-row _ _ refl refl and all,
 )
@@ -140,5 +181,8 @@ computed = (
 pub bench-sheet : AllHold sheet
 bench-sheet = computed .0
 
+pub refusal-files : AllHold refusalFiles
+refusal-files = computed .1
+
 pub source-figures : AllHold figures
-source-figures = computed .1
+source-figures = computed .2

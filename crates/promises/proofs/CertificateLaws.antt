@@ -1,5 +1,5 @@
 -- What a certificate says: the verdict on the fact, and so the outcome of solving the task. Assumes nothing.
-use mathlib.Core.Bool.{Bool, true, false, not, _||_, true≢false}
+use mathlib.Core.Bool.{true, false, not, true≢false}
 use mathlib.Core.List.{List, [], _∷_}
 use mathlib.Core.Logic.{_⊎_, inl, inr}
 use mathlib.Core.Path.{_≡_, refl, sym, ap, _∙_, subst}
@@ -9,8 +9,9 @@ use borrow.Author.Tests.{eqb-true, not-true}
 use Rattle.solve.specs.Solving.{told, Solves}
 use Rattle.solve.proofs.SolveLaws.{solve-unique}
 use Rattle.table.specs.Counting.{everyBelow}
+use Rattle.table.proofs.DecidingLaws.{is-right, right-is, is-shaped}
 use Rattle.table.proofs.FlagLaws.{both, and-both}
-use Rattle.table.proofs.Formation.{everyBelow-all, all-everyBelow, formed-well}
+use Rattle.table.proofs.Formation.{everyBelow-all, formed-well}
 use Rattle.table.proofs.JoinLaws.{permitted-none, join-for}
 use Rattle.table.proofs.OrderLaws.{compared, isIn-none, isIn-head, isIn-cases, ≼-none}
 use Rattle.table.proofs.RunLaws.{stateAt-first}
@@ -22,31 +23,19 @@ use Rattle.table.specs.Sizes.{maxRow, perFact}
 use Rattle.table.specs.Strips.{Cells, Course, stateAt, Right}
 use Rattle.table.specs.Tasks.{cellsOf, courseOf, formed, Shaped, WellFormed, WorksFor}
 use Rattle.table.specs.declared.Task.{Task}
-use Rattle.promises.specs.Certificates.{isRight, isRightWith, mends, certifies, certified}
+use Rattle.promises.specs.Certificates.{isRightWith, mends, certifies, certified}
 use Rattle.promises.specs.Determined.{Only}
 
 -- ---- the test of one fact
 
--- `not a || b` says that a gives b.
-implies : (a b : Bool) → (not a || b) ≡ true → a ≡ true → b ≡ true
-implies true b h e = h
-implies false b h e = absurd (true≢false (sym e))
-
-implied : (a b : Bool) → (a ≡ true → b ≡ true) → (not a || b) ≡ true
-implied true b h = h refl
-implied false b h = refl
-
 module _ (c : Cells) (r : Course) (f : ℕ) where
   with-right : (l : List ℕ) → isRightWith c r f l ≡ true → Right (repaired c (isIn l)) r f
-  unfolding isRightWith isRight
-  with-right l h =
-      let d : Cells = repaired c (isIn l) in
-      let p = both (everyBelow (λ i. not (d .needs (r .step i) f) || stateAt d r i f) (r .count)) _ h in
-      record { needed = λ i low. implies _ _ (everyBelow-all _ (r .count) (p .0) i low); wanted = implies _ _ (p .1) }
+  unfolding isRightWith
+  with-right l = is-right (repaired c (isIn l)) r f
 
   right-with : (l : List ℕ) → Right (repaired c (isIn l)) r f → isRightWith c r f l ≡ true
-  unfolding isRightWith isRight
-  right-with l h = and-both _ _ (all-everyBelow _ (r .count) (λ i low. implied _ _ (h .needed i low))) (implied _ _ (h .wanted))
+  unfolding isRightWith
+  right-with l = right-is (repaired c (isIn l)) r f
 
   -- ---- a list of one repair
 
@@ -127,18 +116,7 @@ module _ (t : Task) (v : ℕ → Verdict) (h : certified t v ≡ true) where
   certified-parts =
       let p = both _ _ h in
       let q = both _ _ (p .0) in
-      let s = both _ _ (q .0) in
-      let x = both _ _ (s .0) in
-      let y = both _ _ (s .1) in (
-        record {
-          needs = eqb-true _ _ (x .0);
-          adds = eqb-true _ _ (x .1);
-          deletes = eqb-true _ _ (y .0);
-          steps = eqb-true _ _ (y .1);
-        },
-        q .1,
-        everyBelow-all _ _ (p .1),
-      )
+      (is-shaped t (q .0), q .1, everyBelow-all _ _ (p .1))
 
   pub certified-well : WellFormed t
   certified-well = let p = certified-parts in formed-well t (p .0) (p .1)

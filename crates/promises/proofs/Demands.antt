@@ -1,103 +1,144 @@
 -- The user's three demands as three theorems. Open this file first: each demand is a record whose fields are the parts of the user's
--- sentence, said over the calls' contracts (the definitions that stand above each function in crates/NAME/src). Assumes nothing.
+-- sentence, said of the calls themselves. `SolveGives t room o` says that a call of `solve` with the task t and this room gave o, and that the
+-- contract above the function allows it; nothing else is known of it. So for every call (each crate's proofs/Called); the numbers are 01's.
+-- Assumes nothing.
 --
 -- What is not here, because the check of each crate proves it of each function: the function ends, is safe, and gives a result that its
--- contract allows, on every input. No public call has a `requires`. That its contract allows one result only: Unique.
-use mathlib.Core.Bool.{false}
-use mathlib.Core.List.{List}
+-- contract allows, on every input that it asks for. That it asks for nothing: `AsksNothing` below. That its contract allows one result only:
+-- Unique.
+use mathlib.Core.Bool.{Bool, false}
+use mathlib.Core.List.{List, [], _∷_}
 use mathlib.Core.Logic.{_↔_}
-use mathlib.Core.Path.{_≡_}
+use mathlib.Core.Path.{_≡_, sym, ap, _∙_}
 use Prim.Native.Nat.{ℕ, _<_, _≤_}
 use native.Mathlib.Omega.{arith}
 use lib.ListN.{length, take}
 use Rattle.change.proofs.ApplyLaws.{applies-unformed, applies-unique}
-use Rattle.change.specs.Applying.{firstWrong, Applies}
+use Rattle.change.proofs.Called.{ApplyGives, apply-gives, apply-asks-nothing}
+use Rattle.change.proofs.apply.apply.Reads as apply
+use Rattle.change.specs.Applying.{firstWrong}
 use Rattle.change.specs.Editing.{cellInside}
 use Rattle.change.specs.declared.Applied.{Applied}
 use Rattle.change.specs.declared.Edit.{Edit}
-use Rattle.listing.specs.Listing.{ListsInto}
-use Rattle.runcheck.specs.OpenNeeds.{refusedCheck, checked}
-use Rattle.session.proofs.CallLaws.{open-malformed, open-not-a-session, edit-malformed, edit-not-a-session, edit-outside, opens-refused, edits-refused, opens-unique, edits-unique, listed-malformed, listed-not-a-session}
-use Rattle.session.proofs.Demand3.{demand-3, opening-accepts}
-use Rattle.session.specs.Calls.{Opens, Edits, listed, Story, madeBy, names}
+use Rattle.listing.proofs.Called.{ListingGives, listing-gives, listing-asks-nothing}
+use Rattle.listing.proofs.CutLaws.{listing-cut}
+use Rattle.listing.proofs.Determined.{listing-unique}
+use Rattle.listing.proofs.listing.Reads as listing
+use Rattle.runcheck.proofs.Called.{CheckGives, check-gives, check-asks-nothing}
+use Rattle.runcheck.proofs.check_run.Reads as check
+use Rattle.runcheck.proofs.Valid.{checked-zero-valid, valid-checked-zero}
+use Rattle.runcheck.specs.OpenNeeds.{refusedCheck}
+use Rattle.runcheck.specs.declared.Checked.{Checked}
+use Rattle.session.proofs.CallLaws.{made-unique, open-malformed, open-not-a-session, edit-malformed, edit-not-a-session, edit-outside, opens-refused, edits-refused, opens-unique, edits-unique, listed-malformed, listed-not-a-session}
+use Rattle.session.proofs.Called.{OpenGives, open-gives, open-asks-nothing, EditGives, edit-gives, edit-asks-nothing, ListGives, list-gives, list-asks-nothing}
+use Rattle.session.proofs.Demand3.{opening-accepts, story-ends, ends-solved}
+use Rattle.session.proofs.edit.Reads as edit
+use Rattle.session.proofs.list.Reads as list
+use Rattle.session.proofs.open.Reads as opening
+use Rattle.session.specs.Calls.{Story, told-all, then, Made, names}
 use Rattle.session.specs.Sessions.{inForm}
 use Rattle.session.specs.declared.Edited.{Edited}
-use Rattle.solve.specs.Solving.{Solves}
-use Rattle.table.specs.Outcomes.{Outcome, refused, answered}
+use Rattle.solve.proofs.Called.{SolveGives, solve-gives, solve-asks-nothing}
+use Rattle.solve.proofs.RowLaws.{stored-limit, stored-unique}
+use Rattle.solve.proofs.solve.Reads as solve
+use Rattle.solve.proofs.Hopeless.{nine-stuck, stuck-nine}
+use Rattle.solve.specs.Stuck.{Stuck}
 use Rattle.solve.specs.Tables.{rowAt}
+use Rattle.table.proofs.Called.{FormedGives, formed-gives, formed-asks-nothing}
 use Rattle.table.proofs.Formation.{well-formed}
-use Rattle.table.specs.Answer.{Permitted, First}
+use Rattle.table.proofs.PublishedLaws.{published-first, published-within}
+use Rattle.table.proofs.formed.is_formed.Reads as is-formed
+use Rattle.table.specs.Answer.{Permitted, First, Verdict, Within}
+use Rattle.table.specs.Contracts.{AsksNothing}
 use Rattle.table.specs.Order.{isIn, NotAfter}
-use Rattle.table.specs.Refusals.{accepted, noListWorks, overTheLimit, roomTooShort, notWellFormed, notASession, editOutside, listNotPermitted}
+use Rattle.table.specs.Outcomes.{Outcome, refused, answered}
+use Rattle.table.specs.Published.{WorksPublished}
 use Rattle.table.specs.Repairs.{repaired}
-use Rattle.table.specs.Sizes.{maxFacts, sessionPlaces}
+use Rattle.table.specs.Sizes.{maxFacts}
 use Rattle.table.specs.Strips.{Valid}
-use Rattle.table.specs.Tasks.{cellsOf, courseOf, WorksFor, formed, Shaped, WellFormed}
+use Rattle.table.specs.Tasks.{cellsOf, courseOf, WorksFor, formed, WellFormed, withLimit}
 use Rattle.table.specs.declared.Reply.{Reply}
 use Rattle.table.specs.declared.Task.{Task}
-use Rattle.taskfile.proofs.Files.{accepted-exactly, accepted-read, one-task, cut-decides}
-use Rattle.taskfile.proofs.Function.{reads-total}
-use Rattle.taskfile.specs.Computed.{readFile}
+use Rattle.taskfile.proofs.Called.{record-asks-nothing, body-asks-nothing, ReadGives, read-gives, read-asks-nothing}
+use Rattle.taskfile.proofs.Files.{accepted-read, one-task, cut-decides}
+use Rattle.taskfile.proofs.Unique.{reads-unique}
+use Rattle.taskfile.proofs.read.Reads as read
+use Rattle.taskfile.proofs.record.body_at.Reads as body-at
+use Rattle.taskfile.proofs.record.record_at.Reads as record-at
 use Rattle.taskfile.specs.Format.{fileOf}
-use Rattle.taskfile.specs.Lengths.{programRoom}
-use Rattle.taskfile.specs.Reading.{ReadsFile, acceptedRead}
+use Rattle.taskfile.specs.Reading.{acceptedRead}
 use Rattle.taskfile.specs.declared.TaskRead.{TaskRead}
+use Rattle.taskwriter.proofs.Called.{WriteGives, write-gives, write-asks-nothing}
 use Rattle.taskwriter.proofs.WritingLaws.{written-unformed, written-file}
-use Rattle.taskwriter.specs.Writing.{written}
-use Rattle.promises.proofs.RefusalLaws.{BadFile, bad-file, write-keeps, check-malformed, apply-defined, bad-list, solve-keeps, list-keeps, listing-keeps}
+use Rattle.taskwriter.proofs.write.Reads as write
+use Rattle.promises.proofs.FileLaws.{read-is-exact, reads-back, writes-back}
+use Rattle.promises.proofs.RefusalLaws.{BadFile, bad-file, write-keeps, check-malformed, bad-list, solve-keeps, list-keeps, listing-keeps}
 use Rattle.promises.proofs.SolvedLaws.{least-length, least-first, accepted-answer, over-exactly, hopeless-exactly, short-exactly, works-cures}
 
 -- A call is refused: its number is not 0.
 abbrev pub Refused : ℕ → Type 0
-Refused number = number ≡ accepted → ⊥
+Refused number = number ≡ 0 → ⊥
 
 -- ---- demand 1
 
+-- "Every call ends and is defined on every input": no public call asks anything of its caller.
+pub record AllDefined : Type 0 where
+  pub formed-asks : AsksNothing is-formed.Pre
+  pub record-asks : AsksNothing record-at.Pre
+  pub body-asks : AsksNothing body-at.Pre
+  pub read-asks : AsksNothing read.Pre
+  pub write-asks : AsksNothing write.Pre
+  pub check-asks : AsksNothing check.Pre
+  pub apply-asks : AsksNothing apply.Pre
+  pub solve-asks : AsksNothing solve.Pre
+  pub open-asks : AsksNothing opening.Pre
+  pub edit-asks : AsksNothing edit.Pre
+  pub list-asks : AsksNothing list.Pre
+  pub listing-asks : AsksNothing listing.Pre
+
 -- What every call gives for a task that is not well formed: refusal 12 at 0, zeros or the task given, and what was lent as it was.
 pub record BadTask (t : Task) : Type 0 where
-  pub write : (room : List ℕ) → written t room ≡ refused notWellFormed room
-  pub check : checked t ≡ refusedCheck notWellFormed
-  pub apply : (l : List ℕ) (r : Applied) → Applies t l r → r ≡ record { number = notWellFormed; place = 0; task = t }
-  pub solve : (room : List ℕ) (o : Outcome) → Solves t room o → o ≡ refused notWellFormed room
-  pub open-it : (s after : List ℕ) (r : Reply) → Opens t s r after → (r ≡ record { number = notWellFormed; place = 0; length = 0 }) × (after ≡ s)
-  pub edit : (s after : List ℕ) (e : Edit) (r : Edited) → Edits t s e r after → (r ≡ record { number = notWellFormed; place = 0; task = t }) × (after ≡ s)
-  pub list : (s room : List ℕ) → listed t s room ≡ refused notWellFormed room
+  pub formed-it : (b : Bool) → FormedGives t b → b ≡ false
+  pub write-it : (room : List ℕ) (o : Outcome) → WriteGives t room o → o ≡ refused 12 room
+  pub check-it : (r : Checked) → CheckGives t r → r ≡ refusedCheck 12
+  pub apply-it : (l : List ℕ) (r : Applied) → ApplyGives t l r → r ≡ record { number = 12; place = 0; task = t }
+  pub solve-it : (room : List ℕ) (o : Outcome) → SolveGives t room o → o ≡ refused 12 room
+  pub open-it : (s after : List ℕ) (r : Reply) → OpenGives t s r after → (r ≡ record { number = 12; place = 0; length = 0 }) × (after ≡ s)
+  pub edit-it : (s after : List ℕ) (e : Edit) (r : Edited) → EditGives t s e r after → (r ≡ record { number = 12; place = 0; task = t }) × (after ≡ s)
+  pub list-it : (s room : List ℕ) (o : Outcome) → ListGives t s room o → o ≡ refused 12 room
 
 -- What the session's calls give for a well-formed task and a table of another length, or, in listing, not in form: refusal 13 at 0.
 pub record BadSession (t : Task) (s : List ℕ) : Type 0 where
-  pub open-it : (length s ≡ sessionPlaces → ⊥) → (after : List ℕ) (r : Reply) → Opens t s r after
-      → (r ≡ record { number = notASession; place = 0; length = 0 }) × (after ≡ s)
-  pub edit : (length s ≡ sessionPlaces → ⊥) → (after : List ℕ) (e : Edit) (r : Edited) → Edits t s e r after
-      → (r ≡ record { number = notASession; place = 0; task = t }) × (after ≡ s)
-  pub list : inForm t s ≡ false → (room : List ℕ) → listed t s room ≡ refused notASession room
+  pub open-it : (length s ≡ 448 → ⊥) → (after : List ℕ) (r : Reply) → OpenGives t s r after
+      → (r ≡ record { number = 13; place = 0; length = 0 }) × (after ≡ s)
+  pub edit-it : (length s ≡ 448 → ⊥) → (after : List ℕ) (e : Edit) (r : Edited) → EditGives t s e r after
+      → (r ≡ record { number = 13; place = 0; task = t }) × (after ≡ s)
+  pub list-it : inForm t s ≡ false → (room : List ℕ) (o : Outcome) → ListGives t s room o → o ≡ refused 13 room
 
 -- "Every call ends and is defined on every input. Bad files, tables, lists and edits get document 01's numbered refusal, and a refused
 -- call changes no byte or number lent to it."
 pub record Demand1 : Type 0 where
-  -- "is defined on every input": see the top of this file. The contracts of record_at, body_at, write, check_run and list are equations
-  -- with a function. Of two of the others it is seen from the definitions alone:
-  pub read-defined : (s : List ℕ) → (r : TaskRead) × ReadsFile s r
-  pub apply-is-defined : (t : Task) → Shaped t → (l : List ℕ) → (r : Applied) × Applies t l r
-  -- "Bad files .. get document 01's numbered refusal": 1 to 8, the first fault of the first faulty record (`ReadsFile`), a task of zeros
-  pub bad-files : (s : List ℕ) (r : TaskRead) → ReadsFile s r → ((t : Task) → WellFormed t → s ≡ fileOf t → ⊥) → BadFile r
+  pub defined : AllDefined
+  -- "Bad files .. get document 01's numbered refusal": 1 to 8, and a task of zeros. Which, and where: RefusalTable.
+  pub bad-files : (s : List ℕ) (r : TaskRead) → ReadGives s r → ((t : Task) → WellFormed t → s ≡ fileOf t → ⊥) → BadFile r
   -- "tables": of actions (12), and of a session (13)
   pub bad-tasks : (t : Task) → formed t ≡ false → BadTask t
   pub bad-sessions : (t : Task) → WellFormed t → (s : List ℕ) → BadSession t s
   -- "lists": 15 at the index of the first number that does not ascend or is not permitted
-  pub bad-lists : (t : Task) → WellFormed t → (l : List ℕ) → (Permitted (cellsOf (t .table)) l → ⊥) → (r : Applied) → Applies t l r
-      → r ≡ record { number = listNotPermitted; place = firstWrong (cellsOf (t .table)) l; task = t }
+  pub bad-lists : (t : Task) → WellFormed t → (l : List ℕ) → (Permitted (cellsOf (t .table)) l → ⊥) → (r : Applied) → ApplyGives t l r
+      → r ≡ record { number = 15; place = firstWrong (cellsOf (t .table)) l; task = t }
   -- "and edits": 14
-  pub bad-edits : (t : Task) → WellFormed t → (s : List ℕ) → length s ≡ sessionPlaces → (e : Edit) → cellInside t (e .cell) ≡ false
-      → (after : List ℕ) (r : Edited) → Edits t s e r after → (r ≡ record { number = editOutside; place = 0; task = t }) × (after ≡ s)
+  pub bad-edits : (t : Task) → WellFormed t → (s : List ℕ) → length s ≡ 448 → (e : Edit) → cellInside t (e .cell) ≡ false
+      → (after : List ℕ) (r : Edited) → EditGives t s e r after → (r ≡ record { number = 14; place = 0; task = t }) × (after ≡ s)
   -- "a refused call changes no byte or number lent to it"; a refused applying or edit gives the task back
-  pub write-changes-nothing : (t : Task) (room : List ℕ) (o : Outcome) → o ≡ written t room → Refused (o .reply .number) → o .room ≡ room
-  pub solve-changes-nothing : (t : Task) (room : List ℕ) (o : Outcome) → Solves t room o → Refused (o .reply .number) → o .room ≡ room
-  pub open-changes-nothing : (t : Task) (s after : List ℕ) (r : Reply) → Opens t s r after → Refused (r .number) → after ≡ s
-  pub edit-changes-nothing : (t : Task) (s after : List ℕ) (e : Edit) (r : Edited) → Edits t s e r after → Refused (r .number)
+  pub write-changes-nothing : (t : Task) (room : List ℕ) (o : Outcome) → WriteGives t room o → Refused (o .reply .number) → o .room ≡ room
+  pub solve-changes-nothing : (t : Task) (room : List ℕ) (o : Outcome) → SolveGives t room o → Refused (o .reply .number) → o .room ≡ room
+  pub open-changes-nothing : (t : Task) (s after : List ℕ) (r : Reply) → OpenGives t s r after → Refused (r .number) → after ≡ s
+  pub edit-changes-nothing : (t : Task) (s after : List ℕ) (e : Edit) (r : Edited) → EditGives t s e r after → Refused (r .number)
       → (r .task ≡ t) × (after ≡ s)
-  pub list-changes-nothing : (t : Task) (s room : List ℕ) (o : Outcome) → o ≡ listed t s room → Refused (o .reply .number) → o .room ≡ room
-  pub listing-changes-nothing : (input room : List ℕ) (o : Outcome) → ListsInto input room o → Refused (o .reply .number) → o .room ≡ room
-  pub apply-changes-nothing : (t : Task) (l : List ℕ) (r : Applied) → Applies t l r → Refused (r .number) → r .task ≡ t
+  pub list-changes-nothing : (t : Task) (s room : List ℕ) (o : Outcome) → ListGives t s room o → Refused (o .reply .number) → o .room ≡ room
+  pub listing-changes-nothing : (input room : List ℕ) (o : Outcome) → ListingGives input room o → Refused (o .reply .number) → o .room ≡ room
+  pub apply-changes-nothing : (t : Task) (l : List ℕ) (r : Applied) → ApplyGives t l r → Refused (r .number) → r .task ≡ t
 
 -- ---- demand 2
 
@@ -115,7 +156,8 @@ pub record Given (t : Task) (room : List ℕ) (o : Outcome) : Type 0 where
   -- "and among equals it is the first in the stated order"
   pub first : (m : List ℕ) → WorksFor t m → length m ≡ length list → NotAfter list m
   -- so that applying it is accepted, and the run check then finds nothing open
-  pub cures : (r : Applied) → Applies t list r → (r .number ≡ accepted) × Valid (cellsOf (r .task .table)) (courseOf (r .task .run)) × (checked (r .task) .total ≡ 0)
+  pub cures : (r : Applied) → ApplyGives t list r
+      → (r .number ≡ 0) × Valid (cellsOf (r .task .table)) (courseOf (r .task .run)) × ((c : Checked) → CheckGives (r .task) c → c .total ≡ 0)
 
 -- "Files and tables match exactly, read and written. Repairs have the published STRIPS meaning: the list given makes the run executable
 -- and reach its goals, no shorter permitted list does, and among equals it is the first in the stated order. On a well-formed table,
@@ -123,90 +165,131 @@ pub record Given (t : Task) (room : List ℕ) (o : Outcome) : Type 0 where
 -- limit, and as hopeless exactly when none of any length works."
 pub record Demand2 : Type 0 where
   -- "Files and tables match exactly, read": a file is accepted exactly if it is the file of a well-formed task, and then that task is read
-  pub read-exactly : (s : List ℕ) (t : Task) → ReadsFile s (acceptedRead t) ↔ (WellFormed t × (s ≡ fileOf t))
-  pub accepted-reads : (s : List ℕ) (r : TaskRead) → ReadsFile s r → r .number ≡ accepted → r ≡ acceptedRead (r .task)
+  pub read-exactly : (s : List ℕ) (r : TaskRead) → ReadGives s r → (t : Task) → (r ≡ acceptedRead t) ↔ (WellFormed t × (s ≡ fileOf t))
+  pub accepted-reads : (s : List ℕ) (r : TaskRead) → ReadGives s r → r .number ≡ 0 → r ≡ acceptedRead (r .task)
   pub one-file : (t q : Task) → WellFormed t → WellFormed q → fileOf t ≡ fileOf q → t ≡ q
-  pub later-bytes : (s : List ℕ) (r : TaskRead) → ReadsFile (take programRoom s) r ↔ ReadsFile s r
   -- "and written": into enough room the file, from the first place on and nothing beside
-  pub written-exactly : (t : Task) → WellFormed t → (room : List ℕ) → length (fileOf t) ≤ length room
-      → written t room ≡ answered (fileOf t) room
+  pub written-exactly : (t : Task) → WellFormed t → (room : List ℕ) → length (fileOf t) ≤ length room → (o : Outcome) → WriteGives t room o
+      → o ≡ answered (fileOf t) room
+  -- both round trips: reading what was written gives the task, writing what was read gives the bytes
+  pub read-back : (t : Task) → WellFormed t → (room : List ℕ) (o : Outcome) → WriteGives t room o → o .reply .number ≡ 0
+      → (r : TaskRead) → ReadGives (take (o .reply .length) (o .room)) r → r ≡ acceptedRead t
+  pub write-back : (s : List ℕ) (r : TaskRead) → ReadGives s r → r .number ≡ 0
+      → (room : List ℕ) → length s ≤ length room → (o : Outcome) → WriteGives (r .task) room o → o ≡ answered s room
+  -- 01: "at most 20,000 bytes; later bytes can't alter its answer", neither what is read nor what is listed
+  pub later-bytes : (s : List ℕ) (r q : TaskRead) → ReadGives (take 20000 s) r → ReadGives s q → r ≡ q
+  pub later-bytes-listed : (s room : List ℕ) (o p : Outcome) → ListingGives (take 20000 s) room o → ListingGives s room p → o ≡ p
   -- "the list given makes .., no shorter .., and among equals .."
-  pub given : (t : Task) → WellFormed t → (room : List ℕ) (o : Outcome) → Solves t room o → o .reply .number ≡ accepted → Given t room o
+  pub given : (t : Task) → WellFormed t → (room : List ℕ) (o : Outcome) → SolveGives t room o → o .reply .number ≡ 0 → Given t room o
   -- "refused as over the limit exactly when some permitted list works but none within the limit", in whatever room
-  pub over-the-limit : (t : Task) → WellFormed t → (room : List ℕ) (o : Outcome) → Solves t room o
-      → (o .reply .number ≡ overTheLimit) ↔ (((m : List ℕ) × WorksFor t m) × ((m : List ℕ) → WorksFor t m → t .table .limit < length m))
+  pub over-the-limit : (t : Task) → WellFormed t → (room : List ℕ) (o : Outcome) → SolveGives t room o
+      → (o .reply .number ≡ 10) ↔ (((m : List ℕ) × WorksFor t m) × ((m : List ℕ) → WorksFor t m → t .table .limit < length m))
   -- "and as hopeless exactly when none of any length works", in whatever room
-  pub none-works : (t : Task) → WellFormed t → (room : List ℕ) (o : Outcome) → Solves t room o
-      → (o .reply .number ≡ noListWorks) ↔ ((m : List ℕ) → WorksFor t m → ⊥)
+  pub none-works : (t : Task) → WellFormed t → (room : List ℕ) (o : Outcome) → SolveGives t room o
+      → (o .reply .number ≡ 9) ↔ ((m : List ℕ) → WorksFor t m → ⊥)
   -- "before the lent room is looked at": 11 exactly when there is an answer within the limit and the room is shorter
-  pub room-too-short : (t : Task) → WellFormed t → (room : List ℕ) (o : Outcome) → Solves t room o
-      → (o .reply .number ≡ roomTooShort) ↔ ((l : List ℕ) × First (WorksFor t) l × (length l ≤ t .table .limit) × (length room < length l))
+  pub room-too-short : (t : Task) → WellFormed t → (room : List ℕ) (o : Outcome) → SolveGives t room o
+      → (o .reply .number ≡ 11) ↔ ((l : List ℕ) × First (WorksFor t) l × (length l ≤ t .table .limit) × (length room < length l))
+  -- 01: "Refusal 9 occurs here only with no steps and a goal absent at the start", and then it does
+  pub nine-exactly : (t : Task) → WellFormed t → (room : List ℕ) (o : Outcome) → SolveGives t room o → (o .reply .number ≡ 9) ↔ Stuck t
+  -- the run check counts nothing exactly if the run is valid
+  pub nothing-open : (t : Task) → WellFormed t → (r : Checked) → CheckGives t r → (r .total ≡ 0) ↔ Valid (cellsOf (t .table)) (courseOf (t .run))
+  -- 01: "001 permits kind 1 for every fact. Ours leaves out only repairs that do nothing, so least lists are the same", and so is what is
+  -- over the limit or hopeless
+  pub published-answer : (t : Task) (l : List ℕ) → First (WorksFor t) l ↔ First (WorksPublished (cellsOf (t .table)) (courseOf (t .run))) l
+  pub published-verdict : (t : Task) (limit : ℕ) (v : Verdict)
+      → Within (WorksFor t) limit v ↔ Within (WorksPublished (cellsOf (t .table)) (courseOf (t .run))) limit v
 
 -- ---- demand 3
 
+-- Edits made one after another, each by a call of `edit`, accepted or refused: from the task t and the table s to u and `end`.
+pub data EditsMade : Task → List ℕ → List Edit → Task → List ℕ → Type 0 where
+  none-left : {t : Task} {s : List ℕ} → EditsMade t s [] t s
+  and-then : {t : Task} {s : List ℕ} {e : Edit} {r : Edited} {after : List ℕ} {es : List Edit} {u : Task} {end : List ℕ}
+      → EditGives t s e r after → EditsMade (r .task) after es u end → EditsMade t s (e ∷ es) u end
+
 -- After an opening that was accepted, and any edits: the end is the task u and the table `end`.
 pub record After (t : Task) (s : List ℕ) (es : List Edit) (u : Task) (end : List ℕ) : Type 0 where
-  -- the task "as the accepted edits make it one after another"
-  pub task : u ≡ madeBy t es
+  -- the task "as the accepted edits make it one after another": each sets exactly its cell (change/specs/Editing), and there is one such
+  pub task : Made t es u
+  pub only : (v : Task) → Made t es v → v ≡ u
   pub well : WellFormed u
   -- listing and a fresh solve, into equal room, agree in number, place, length and every number of the room
-  pub listing : (room : List ℕ) (o p : Outcome) → o ≡ listed u end room → Solves u room p → o ≡ p
+  pub answer : (room : List ℕ) (o p : Outcome) → ListGives u end room o → SolveGives u room p → o ≡ p
   -- rows of facts that no accepted edit named are the numbers that opening wrote
   pub kept : (f : ℕ) → f < maxFacts → names t es f ≡ false → rowAt end f ≡ rowAt s f
 
 -- For every well-formed task, every table opened for it and every list of edits, accepted or refused: the session's answer is the fresh
--- solve's. An edit is any result that its contract allows (`Story`), so that one that does nothing, or works the first time and later
--- only echoes, has no part in it.
+-- solve's. An edit is any result that its contract allows, so that one that does nothing, or works the first time and later only echoes,
+-- has no part in it.
 pub record Demand3 : Type 0 where
   -- every well-formed task can be opened
-  pub opens : (t : Task) → WellFormed t → (s₀ s : List ℕ) (r : Reply) → length s₀ ≡ sessionPlaces → Opens t s₀ r s → r .number ≡ accepted
-  pub session : (t : Task) → WellFormed t → (s₀ s : List ℕ) (r : Reply) → Opens t s₀ r s → r .number ≡ accepted
-      → (es : List Edit) (u : Task) (end : List ℕ) → Story t s es u end → After t s es u end
+  pub opens : (t : Task) → WellFormed t → (s₀ s : List ℕ) (r : Reply) → length s₀ ≡ 448 → OpenGives t s₀ r s → r .number ≡ 0
+  pub session : (t : Task) → WellFormed t → (s₀ s : List ℕ) (r : Reply) → OpenGives t s₀ r s → r .number ≡ 0
+      → (es : List Edit) (u : Task) (end : List ℕ) → EditsMade t s es u end → After t s es u end
+  -- 01: "The rows don't depend on L": opened with another limit, all rows are the same
+  pub any-limit : (t : Task) (l : ℕ) (s₀ s q₀ q : List ℕ) (r p : Reply) → OpenGives t s₀ r s → r .number ≡ 0
+      → OpenGives (withLimit t l) q₀ p q → p .number ≡ 0 → s ≡ q
 
 -- ---- the theorems
 
 bad-task : (t : Task) → formed t ≡ false → BadTask t
 bad-task t h = record {
-  write = λ room. written-unformed t room h;
-  check = check-malformed t h;
-  apply = λ l r a. applies-unique t l r _ a (applies-unformed t l h);
-  solve = λ room o s. s .malformed h;
-  open-it = λ s after r a. opens-unique t s r _ after s a (opens-refused t s notWellFormed (omega arith) (open-malformed t s h));
-  edit = λ s after e r a. edits-unique t s e r _ after s a (edits-refused t s e notWellFormed (omega arith) (edit-malformed t s e h));
-  list = λ s room. listed-malformed t s room h;
+  formed-it = λ b g. formed-gives t b g ∙ h;
+  write-it = λ room o g. write-gives t room o g ∙ written-unformed t room h;
+  check-it = λ r g. check-gives t r g ∙ check-malformed t h;
+  apply-it = λ l r g. applies-unique t l r _ (apply-gives t l r g) (applies-unformed t l h);
+  solve-it = λ room o g. solve-gives t room o g .malformed h;
+  open-it = λ s after r g.
+      opens-unique t s r _ after s (open-gives t s r after g) (opens-refused t s 12 (omega arith) (open-malformed t s h));
+  edit-it = λ s after e r g.
+      edits-unique t s e r _ after s (edit-gives t s e r after g) (edits-refused t s e 12 (omega arith) (edit-malformed t s e h));
+  list-it = λ s room o g. list-gives t s room o g ∙ listed-malformed t s room h;
 }
 
 bad-session : (t : Task) → WellFormed t → (s : List ℕ) → BadSession t s
 bad-session t w s = record {
-  open-it = λ n after r a.
-      opens-unique t s r _ after s a (opens-refused t s notASession (omega arith) (open-not-a-session t s (well-formed t w) n));
-  edit = λ n after e r a.
-      edits-unique t s e r _ after s a (edits-refused t s e notASession (omega arith) (edit-not-a-session t s e (well-formed t w) n));
-  list = λ h room. listed-not-a-session t s room w h;
+  open-it = λ n after r g.
+      opens-unique t s r _ after s (open-gives t s r after g) (opens-refused t s 13 (omega arith) (open-not-a-session t s (well-formed t w) n));
+  edit-it = λ n after e r g.
+      edits-unique t s e r _ after s (edit-gives t s e r after g) (edits-refused t s e 13 (omega arith) (edit-not-a-session t s e (well-formed t w) n));
+  list-it = λ h room o g. list-gives t s room o g ∙ listed-not-a-session t s room w h;
 }
 
 pub demand-one : Demand1
 demand-one = record {
-  read-defined = λ s. (readFile s, reads-total s);
-  apply-is-defined = apply-defined;
-  bad-files = bad-file;
+  defined = record {
+    formed-asks = formed-asks-nothing;
+    record-asks = record-asks-nothing;
+    body-asks = body-asks-nothing;
+    read-asks = read-asks-nothing;
+    write-asks = write-asks-nothing;
+    check-asks = check-asks-nothing;
+    apply-asks = apply-asks-nothing;
+    solve-asks = solve-asks-nothing;
+    open-asks = open-asks-nothing;
+    edit-asks = edit-asks-nothing;
+    list-asks = list-asks-nothing;
+    listing-asks = listing-asks-nothing;
+  };
+  bad-files = λ s r g. bad-file s r (read-gives s r g);
   bad-tasks = bad-task;
   bad-sessions = bad-session;
-  bad-lists = λ t w. bad-list t w (well-formed t w);
-  bad-edits = λ t w s n e h after r a.
-      edits-unique t s e r _ after s a (edits-refused t s e editOutside (omega arith) (edit-outside t s e (well-formed t w) n h));
-  write-changes-nothing = write-keeps;
-  solve-changes-nothing = solve-keeps;
-  open-changes-nothing = λ t s after r a h. a .refused h .1;
-  edit-changes-nothing = λ t s after e r a h. a .refused h;
-  list-changes-nothing = list-keeps;
-  listing-changes-nothing = listing-keeps;
-  apply-changes-nothing = λ t l r a h. a .refused h;
+  bad-lists = λ t w l bad r g. bad-list t w (well-formed t w) l bad r (apply-gives t l r g);
+  bad-edits = λ t w s n e h after r g.
+      edits-unique t s e r _ after s (edit-gives t s e r after g) (edits-refused t s e 14 (omega arith) (edit-outside t s e (well-formed t w) n h));
+  write-changes-nothing = λ t room o g. write-keeps t room o (write-gives t room o g);
+  solve-changes-nothing = λ t room o g. solve-keeps t room o (solve-gives t room o g);
+  open-changes-nothing = λ t s after r g h. open-gives t s r after g .refused h .1;
+  edit-changes-nothing = λ t s after e r g h. edit-gives t s e r after g .refused h;
+  list-changes-nothing = λ t s room o g. list-keeps t s room o (list-gives t s room o g);
+  listing-changes-nothing = λ input room o g. listing-keeps input room o (listing-gives input room o g);
+  apply-changes-nothing = λ t l r g h. apply-gives t l r g .refused h;
 }
 
-given-list : (t : Task) → WellFormed t → (room : List ℕ) (o : Outcome) → Solves t room o → o .reply .number ≡ accepted → Given t room o
-given-list t w room o s h =
-    let x = accepted-answer t w room o s h in
+given-list : (t : Task) → WellFormed t → (room : List ℕ) (o : Outcome) → SolveGives t room o → o .reply .number ≡ 0 → Given t room o
+given-list t w room o g h =
+    let x = accepted-answer t w room o (solve-gives t room o g) h in
     record {
       list = x .0;
       shown = x .3;
@@ -215,26 +298,53 @@ given-list t w room o s h =
       valid = x .1 .member .valid;
       shortest = least-length (x .1);
       first = least-first (x .1);
-      cures = works-cures t w (x .0) (x .1 .member);
+      cures = λ r a.
+          let done = works-cures t w (x .0) (x .1 .member) r (apply-gives t (x .0) r a) in
+          (done .0, done .1, λ c k. ap (λ (q : Checked). q .total) (check-gives (r .task) c k) ∙ done .2);
     }
 
 pub demand-two : Demand2
 demand-two = record {
-  read-exactly = accepted-exactly;
-  accepted-reads = λ s r. accepted-read;
+  read-exactly = read-is-exact;
+  accepted-reads = λ s r g. accepted-read (read-gives s r g);
   one-file = one-task;
-  later-bytes = cut-decides;
-  written-exactly = λ t w room. written-file t room (well-formed t w);
+  written-exactly = λ t w room n o g. write-gives t room o g ∙ written-file t room (well-formed t w) n;
+  read-back = reads-back;
+  write-back = writes-back;
+  later-bytes = λ s r q a b. reads-unique (cut-decides s r .0 (read-gives (take 20000 s) r a)) (read-gives s q b);
+  later-bytes-listed = λ s room o p a b.
+      listing-unique (listing-cut s room o .0 (listing-gives (take 20000 s) room o a)) (listing-gives s room p b);
   given = given-list;
-  over-the-limit = over-exactly;
-  none-works = hopeless-exactly;
-  room-too-short = short-exactly;
+  over-the-limit = λ t w room o g. over-exactly t w room o (solve-gives t room o g);
+  none-works = λ t w room o g. hopeless-exactly t w room o (solve-gives t room o g);
+  room-too-short = λ t w room o g. short-exactly t w room o (solve-gives t room o g);
+  nine-exactly = λ t w room o g.
+      let s = solve-gives t room o g in
+      (nine-stuck t w room o s, λ h. ap (λ (x : Outcome). x .reply .number) (stuck-nine t w room o s h));
+  nothing-open = λ t w r g.
+      let e = ap (λ (x : Checked). x .total) (check-gives t r g) in
+      (λ h. checked-zero-valid t w (sym e ∙ h), λ v. e ∙ valid-checked-zero t w v);
+  published-answer = λ t. published-first (cellsOf (t .table)) (courseOf (t .run));
+  published-verdict = λ t. published-within (cellsOf (t .table)) (courseOf (t .run));
 }
+
+-- Edits made by calls are a story of the session's.
+story : (t : Task) (s : List ℕ) (es : List Edit) (u : Task) (end : List ℕ) → EditsMade t s es u end → Story t s es u end
+story t s [] u end none-left = told-all
+story t s (e ∷ es) u end (and-then {r = r} {after = after} g rest) = then (edit-gives t s e r after g) (story (r .task) after es u end rest)
 
 pub demand-three : Demand3
 demand-three = record {
-  opens = λ t w s₀ s r n. opening-accepts t s₀ s r w n;
-  session = λ t w s₀ s r opening accepts es u end story.
-      let done = demand-3 t w s₀ s r opening accepts es u end story in
-      record { task = done .task; well = done .well; listing = done .listing; kept = done .kept };
+  opens = λ t w s₀ s r n g. opening-accepts t s₀ s r w n (open-gives t s₀ r s g);
+  session = λ t w s₀ s r g ok es u end made.
+      let done = story-ends t s es u end w (open-gives t s₀ r s g .opened ok .1) (story t s es u end made) in
+      record {
+        task = done .made;
+        only = λ v m. made-unique t es v u m (done .made);
+        well = done .well;
+        answer = λ room o p a b. ends-solved done room o p (list-gives u end room o a) (solve-gives u room p b);
+        kept = done .kept;
+      };
+  any-limit = λ t l s₀ s q₀ q r p a ok b also.
+      stored-unique (withLimit t l) s q (stored-limit t l s (open-gives t s₀ r s a .opened ok .1)) (open-gives (withLimit t l) q₀ p q b .opened also .1);
 }

@@ -5,10 +5,9 @@ use mathlib.Core.Path.{_≡_, refl, ap, _∙_, subst}
 use Prim.Native.Nat.{ℕ, _<_, _≤_}
 use native.Mathlib.Omega.{arith}
 use lib.ListN.{length}
-use Rattle.change.proofs.ApplyLaws.{applies-unformed, applies-wrong, applies-made, applies-unique}
+use Rattle.change.proofs.ApplyLaws.{applies-wrong, applies-unique}
 use Rattle.change.proofs.PermittedLaws.{firstWrong-le, permitted-list}
 use Rattle.change.specs.Applying.{firstWrong, Applies}
-use Rattle.change.specs.Kinds.{oneByOne}
 use Rattle.change.specs.declared.Applied.{Applied}
 use Rattle.listing.specs.Listing.{ListsInto}
 use Rattle.runcheck.specs.OpenNeeds.{refusedCheck, checked}
@@ -23,7 +22,7 @@ use Rattle.table.proofs.OutcomeLaws.{given-keeps}
 use Rattle.table.specs.Answer.{Verdict, found, over, hopeless, Permitted}
 use Rattle.table.specs.Join.{joinVerdicts}
 use Rattle.table.specs.Refusals.{Check, Refusal, firstOf, accepted, bytesAfterEnd, notWellFormed, notASession, listNotPermitted}
-use Rattle.table.specs.Tasks.{cellsOf, formed, Shaped, WellFormed}
+use Rattle.table.specs.Tasks.{cellsOf, formed, WellFormed}
 use Rattle.table.specs.declared.Task.{Task}
 use Rattle.taskfile.proofs.Files.{accepted-exactly, accepted-read}
 use Rattle.taskfile.specs.Format.{fileOf}
@@ -34,11 +33,11 @@ use Rattle.taskwriter.specs.Writing.{written}
 -- ---- files
 
 -- Every check's number is at most n.
-abbrev Bounded : ℕ → List Check → Type 0
+abbrev pub Bounded : ℕ → List Check → Type 0
 Bounded n [] = Unit {0}
 Bounded n (c ∷ cs) = (c .number ≤ n) × Bounded n cs
 
-firstOf-bounded : (n : ℕ) (cs : List Check) → Bounded n cs → firstOf cs .number ≤ n
+pub firstOf-bounded : (n : ℕ) (cs : List Check) → Bounded n cs → firstOf cs .number ≤ n
 unfolding firstOf
 firstOf-bounded n [] b = omega arith
 firstOf-bounded n (c ∷ cs) b = pick (c .fires) (firstOf-bounded n cs (b .1))
@@ -58,7 +57,7 @@ pub record BadFile (r : TaskRead) : Type 0 where
   pub numbered : (0 < r .number) × (r .number ≤ bytesAfterEnd)
   pub zeros : r .task ≡ noTask
 
-bad-from : {s : List ℕ} {r : TaskRead} {at : ℕ} {seen : Seen} → Reads s r at seen → (r .number ≡ accepted → ⊥) → BadFile r
+pub bad-from : {s : List ℕ} {r : TaskRead} {at : ℕ} {seen : Seen} → Reads s r at seen → (r .number ≡ accepted → ⊥) → BadFile r
 bad-from {s} (faulty {at} {seen} f e) nonzero = record {
   numbered = (
     omega (arith, ap (λ (q : TaskRead). q .number) e),
@@ -101,23 +100,6 @@ unfolding checked
 check-malformed t e = rw e
 
 -- ---- applying a list
-
--- Some result meets the contract, for every task and list.
-pub apply-defined : (t : Task) → Shaped t → (l : List ℕ) → (r : Applied) × Applies t l r
-apply-defined t s l = pick (formed t) refl
-  where
-    made : formed t ≡ true → (r : Applied) × Applies t l r
-    made e =
-        by-order (firstWrong (cellsOf (t .table)) l) (length l)
-        (λ h. (record { number = listNotPermitted; place = firstWrong (cellsOf (t .table)) l; task = t }, applies-wrong t l _ refl e h))
-        (λ h. (
-          record { number = accepted; place = 0; task = record { table = oneByOne (t .table) l (length l); run = t .run } },
-          applies-made t l _ refl s e h,
-        ))
-
-    pick : (b : Bool) → formed t ≡ b → (r : Applied) × Applies t l r
-    pick true e = made e
-    pick false e = (record { number = notWellFormed; place = 0; task = t }, applies-unformed t l e)
 
 -- A list that is not permitted is refused at its first wrong number.
 pub bad-list : (t : Task) → WellFormed t → formed t ≡ true → (l : List ℕ) → (Permitted (cellsOf (t .table)) l → ⊥) → (r : Applied) → Applies t l r

@@ -1,92 +1,71 @@
--- "Two results that both satisfy it are shown equal" (document 01, "How tight the contracts are"): for each public call, and each input,
--- the contract determines number, place, value and the final content of what was lent. Here the calls of the library; UniqueBoundary has
--- the record reader's and the boundary's. The one exception: of a body handed out the bytes are determined, not the address where they
--- stand. Assumes nothing.
+-- "Two results that both satisfy it are shown equal" (document 01, "How tight the contracts are"): one theorem for each public call of the
+-- library, over the contract above its function (`..Gives`: the crate's proofs/Called). A result is all that the call gives: number, place,
+-- value, and the final content of what was lent. (The record reader and the boundary: UniqueBoundary.) Assumes nothing.
 use mathlib.Core.List.{List}
-use mathlib.Core.Path.{_≡_, sym, _∙_}
 use Prim.Native.Nat.{ℕ}
-use Rattle.change.proofs.ApplyLaws.{applies-unique}
-use Rattle.change.specs.Applying.{Applies}
+use Rattle.change.proofs.Called.{ApplyGives, apply-gives}
 use Rattle.change.specs.declared.Edit.{Edit}
-use Rattle.listing.proofs.Determined.{listing-unique}
-use Rattle.listing.specs.Listing.{ListsInto}
-use Rattle.runcheck.specs.OpenNeeds.{checked}
-use Rattle.runcheck.specs.declared.Checked.{Checked}
-use Rattle.session.proofs.CallLaws.{opens-unique, edits-unique, story-unique}
-use Rattle.session.proofs.Demand3.{whole-unique}
-use Rattle.session.specs.Calls.{Opens, Edits, listed, Story}
-use Rattle.session.specs.Replays.{editOf, WholeSession}
+use Rattle.listing.proofs.Called.{ListingGives, listing-gives}
+use Rattle.runcheck.proofs.Called.{CheckGives, check-gives}
+use Rattle.session.proofs.Called.{OpenGives, open-gives, EditGives, edit-gives, ListGives, list-gives}
 use Rattle.session.specs.declared.Edited.{Edited}
-use Rattle.solve.proofs.SolveLaws.{solve-unique}
-use Rattle.solve.specs.Solving.{Solves}
-use Rattle.table.specs.Outcomes.{Outcome}
+use Rattle.solve.proofs.Called.{SolveGives, solve-gives}
+use Rattle.table.proofs.Called.{FormedGives, formed-gives}
+use Rattle.table.specs.Tasks.{formed}
 use Rattle.table.specs.declared.Reply.{Reply}
 use Rattle.table.specs.declared.Task.{Task}
-use Rattle.taskfile.proofs.Unique.{reads-unique}
-use Rattle.taskfile.specs.Reading.{ReadsFile}
-use Rattle.taskfile.specs.Records.{recordAt, bodyOf}
-use Rattle.taskfile.specs.declared.record.Record.{Record}
-use Rattle.taskwriter.specs.Writing.{written}
+use Rattle.taskfile.proofs.Called.{RecordGives, record-gives, BodyGives, body-gives, ReadGives, read-gives}
+use Rattle.taskwriter.proofs.Called.{WriteGives, write-gives}
+use Rattle.promises.proofs.OneResult as one
 use Rattle.promises.specs.Determined.{Determined}
 
--- Where the contract is an equation.
-pub equation : {A : Type 0} (x : A) → Determined (λ (r : A). r ≡ x)
-equation x r q e d = e ∙ sym d
+-- What a call gives is what a definition says, and the definition allows one result.
+pub one-given : {A : Type 0} {Gives Says : A → Type 0} → ((r : A) → Gives r → Says r) → Determined Says → Determined Gives
+one-given gives determined r q a b = determined r q (gives r a) (gives q b)
 
--- A reply and the numbers lent, of two calls.
-both-equal : {A : Type 0} (r q : A × List ℕ) → (r .0 ≡ q .0) × (r .1 ≡ q .1) → r ≡ q
-both-equal r q e = λ i. (e .0 i, e .1 i)
+-- is_formed
+pub formed-unique : (t : Task) → Determined (FormedGives t)
+formed-unique t = one-given (formed-gives t) (one.equation (formed t))
 
--- record_at: kind, body's place and length, next place. body_at: the body as that part of the file.
-pub record-unique : (s : List ℕ) (at : ℕ) → Determined (λ (r : Record). r ≡ recordAt s at)
-record-unique s at = equation (recordAt s at)
+-- record_at: kind, body's place and length, next place. body_at: the bytes of the body, as that part of the file.
+pub record-unique : (s : List ℕ) (at : ℕ) → Determined (RecordGives s at)
+record-unique s at = one-given (record-gives s at) (one.record-unique s at)
 
-pub body-unique : (s : List ℕ) (at : ℕ) → Determined (λ (b : List ℕ). b ≡ bodyOf s at)
-body-unique s at = equation (bodyOf s at)
+pub body-unique : (s : List ℕ) (at : ℕ) → Determined (BodyGives s at)
+body-unique s at = one-given (body-gives s at) (one.body-unique s at)
 
 -- read
-pub read-unique : (s : List ℕ) → Determined (ReadsFile s)
-read-unique s r q a b = reads-unique a b
+pub read-unique : (s : List ℕ) → Determined (ReadGives s)
+read-unique s = one-given (read-gives s) (one.read-unique s)
 
 -- write: the reply, and the room afterwards
-pub write-unique : (t : Task) (room : List ℕ) → Determined (λ (o : Outcome). o ≡ written t room)
-write-unique t room = equation (written t room)
+pub write-unique : (t : Task) (room : List ℕ) → Determined (WriteGives t room)
+write-unique t room = one-given (write-gives t room) (one.write-unique t room)
 
 -- check_run
-pub check-unique : (t : Task) → Determined (λ (r : Checked). r ≡ checked t)
-check-unique t = equation (checked t)
+pub check-unique : (t : Task) → Determined (CheckGives t)
+check-unique t = one-given (check-gives t) (one.check-unique t)
 
 -- apply
-pub apply-unique : (t : Task) (l : List ℕ) → Determined (Applies t l)
-apply-unique t l = applies-unique t l
+pub apply-unique : (t : Task) (l : List ℕ) → Determined (ApplyGives t l)
+apply-unique t l = one-given (apply-gives t l) (one.apply-unique t l)
 
 -- solve: the reply, and the room afterwards
-pub solved-unique : (t : Task) (room : List ℕ) → Determined (Solves t room)
-solved-unique t room = solve-unique t room
+pub solved-unique : (t : Task) (room : List ℕ) → Determined (SolveGives t room)
+solved-unique t room = one-given (solve-gives t room) (one.solved-unique t room)
 
 -- open: the reply, and the table afterwards
-pub open-unique : (t : Task) (s : List ℕ) → Determined (λ (o : Reply × List ℕ). Opens t s (o .0) (o .1))
-open-unique t s r q a b = both-equal r q (opens-unique t s (r .0) (q .0) (r .1) (q .1) a b)
+pub open-unique : (t : Task) (s : List ℕ) → Determined (λ (o : Reply × List ℕ). OpenGives t s (o .0) (o .1))
+open-unique t s = one-given (λ o. open-gives t s (o .0) (o .1)) (one.open-unique t s)
 
 -- edit: number, place and task, and the table afterwards
-pub edit-unique : (t : Task) (s : List ℕ) (e : Edit) → Determined (λ (o : Edited × List ℕ). Edits t s e (o .0) (o .1))
-edit-unique t s e r q a b = both-equal r q (edits-unique t s e (r .0) (q .0) (r .1) (q .1) a b)
+pub edit-unique : (t : Task) (s : List ℕ) (e : Edit) → Determined (λ (o : Edited × List ℕ). EditGives t s e (o .0) (o .1))
+edit-unique t s e = one-given (λ o. edit-gives t s e (o .0) (o .1)) (one.edit-unique t s e)
 
 -- list: the reply, and the room afterwards
-pub list-unique : (t : Task) (s room : List ℕ) → Determined (λ (o : Outcome). o ≡ listed t s room)
-list-unique t s room = equation (listed t s room)
+pub list-unique : (t : Task) (s room : List ℕ) → Determined (ListGives t s room)
+list-unique t s room = one-given (list-gives t s room) (one.list-unique t s room)
 
 -- listing: the reply, and the room afterwards
-pub listing-determined : (input room : List ℕ) → Determined (ListsInto input room)
-listing-determined input room r q a b = listing-unique a b
-
--- edit_of: the edit of four numbers
-pub edit-of-unique : (kind action fact present : ℕ) → Determined (λ (e : Edit). e ≡ editOf kind action fact present)
-edit-of-unique kind action fact present = equation (editOf kind action fact present)
-
--- replay: the task, and the table afterwards. whole_session: the reply, the room and the table afterwards.
-pub replay-unique : (t : Task) (s : List ℕ) (es : List Edit) → Determined (λ (o : Task × List ℕ). Story t s es (o .0) (o .1))
-replay-unique t s es r q a b = both-equal r q (story-unique t s es (r .0) (q .0) (r .1) (q .1) a b)
-
-pub whole-session-unique : (t : Task) (s es room : List ℕ) → Determined (λ (o : Outcome × List ℕ). WholeSession t s es room (o .0) (o .1))
-whole-session-unique t s es room r q a b = both-equal r q (whole-unique t s es room (r .0) (q .0) (r .1) (q .1) a b)
+pub listing-determined : (input room : List ℕ) → Determined (ListingGives input room)
+listing-determined input room = one-given (listing-gives input room) (one.listing-determined input room)

@@ -4,23 +4,17 @@ use mathlib.Core.Bool.{Bool, false, not, _&&_, _||_, cond}
 use mathlib.Core.List.{List, [], _∷_}
 use Prim.Native.Nat.{ℕ, _+_, _-_, _*_}
 use lib.Dec.{eqb}
-use lib.ListN.{length}
 use Rattle.table.specs.Counting.{everyBelow}
+use Rattle.table.specs.Deciding.{isRight, isShaped}
 use Rattle.table.specs.Answer.{Verdict, found, over, hopeless}
 use Rattle.table.specs.Order.{isIn}
 use Rattle.table.specs.Repairs.{permitted, repaired, factOf}
-use Rattle.table.specs.Sizes.{maxActions, maxSteps, perFact}
-use Rattle.table.specs.Strips.{Cells, Course, stateAt}
+use Rattle.table.specs.Sizes.{perFact}
+use Rattle.table.specs.Strips.{Cells, Course}
 use Rattle.table.specs.Tasks.{cellsOf, courseOf, formed}
 use Rattle.table.specs.declared.Task.{Task}
 
--- "present wherever it is needed, and at the end if it is a goal"
-unfoldable pub isRight : Cells → Course → ℕ → Bool
-isRight c r f =
-    everyBelow (λ i. not (c .needs (r .step i) f) || stateAt c r i f) (r .count) &&
-    (not (r .goal f) || stateAt c r (r .count) f)
-
--- The same in the table with a list applied.
+-- The fact is right in the table with a list applied.
 unfoldable pub isRightWith : Cells → Course → ℕ → List ℕ → Bool
 isRightWith c r f l = isRight (repaired c (isIn l)) r f
 
@@ -42,9 +36,7 @@ certifies c r f hopeless = eqb (r .count) 0 && r .goal f && not (r .start f)
 -- Every fact's verdict is certified, and the task is well formed with arrays of their declared lengths.
 unfoldable pub certified : Task → (ℕ → Verdict) → Bool
 certified t v =
-    eqb (length (t .table .needs)) maxActions && eqb (length (t .table .adds)) maxActions &&
-    (eqb (length (t .table .deletes)) maxActions && eqb (length (t .run .steps)) maxSteps) && formed t &&
-    everyBelow (λ f. certifies (cellsOf (t .table)) (courseOf (t .run)) f (v f)) (t .table .facts)
+    isShaped t && formed t && everyBelow (λ f. certifies (cellsOf (t .table)) (courseOf (t .run)) f (v f)) (t .table .facts)
 
 -- The repairs of fact f in a list.
 unfoldable pub ofFact : List ℕ → ℕ → List ℕ

@@ -1,26 +1,26 @@
--- The bench sheet of document 01 as one table: the starred rows, 1 to 11, in the words of the calls' contracts, and beside them the run
--- check of their tasks and of row 12's. The tasks are in table/specs/Bench, the files in taskfile/specs/BenchFiles.
+-- The bench sheet of document 01 as one table: the starred rows, 1 to 11, in the words of the calls' contracts and with the paper's own
+-- numbers, and beside them the run check of their tasks and of row 12's; and 01's table of refusals by small files. The tasks are in table/specs/Bench, the files in taskfile/specs/BenchFiles.
 use mathlib.Core.Bool.{false}
 use mathlib.Core.List.{List, [], _∷_}
 use mathlib.Core.Path.{_≡_}
-use Prim.Native.Nat.{ℕ}
+use Prim.Native.Nat.{ℕ, zero, suc}
 use Prim.Native.String.{String}
 use lib.ListN.{length}
 use Rattle.change.specs.declared.Cell.the-variants.{Delete}
 use Rattle.change.specs.declared.Edit.{Edit}
 use Rattle.listing.specs.Ascii.{bytesOf}
 use Rattle.listing.specs.Listing.{ListsInto}
-use Rattle.table.specs.Outcomes.{given}
+use Rattle.table.specs.Outcomes.{refused, given}
 use Rattle.runcheck.specs.OpenNeeds.{openNeeds, refusedCheck, checked}
 use Rattle.runcheck.specs.declared.Checked.{Checked}
 use Rattle.session.specs.Calls.{Opens, Edits, listed}
 use Rattle.session.specs.declared.Edited.{Edited}
-use Rattle.solve.specs.Solving.{told, Solves}
+use Rattle.solve.specs.Solving.{Solves}
 use Rattle.solve.specs.Tables.{rowAt}
-use Rattle.table.specs.Answer.{Verdict, found, over, hopeless}
 use Rattle.table.specs.Bench.{task, listingTask, limited, strayTask, goalsAtStart, goalOutOfReach, addsAndDeletes, deletesTheGoal, needsLastFact, pairs}
-use Rattle.table.specs.Refusals.{accepted, noEnd, numberOutside, bytesAfterEnd, notWellFormed}
+use Rattle.table.specs.Order.{_≼_}
 use Rattle.table.specs.Sizes.{maxLimit}
+use Rattle.table.specs.Tasks.{WorksFor}
 use Rattle.table.specs.declared.Reply.{Reply}
 use Rattle.table.specs.declared.Task.{Task}
 use Rattle.taskfile.specs.BenchFiles.{listingFile, withoutEnd, byteAppended, strayStep}
@@ -37,20 +37,26 @@ pub data BenchRow : Type 0 where
   lists : List ℕ → String → BenchRow
   -- the run check of a task gives this
   checks : Task → Checked → BenchRow
-  -- a task has this verdict: it is told into whatever room is lent (`told`: over is 10, hopeless is 9)
-  solves : Task → Verdict → BenchRow
-  -- after one edit of an opened session the listing tells this verdict, and the row of this fact is untouched
-  edits : Task → Edit → Verdict → ℕ → BenchRow
+  -- a solve of a task gives this list, into whatever room is lent that is enough for it (else 11)
+  solves : Task → List ℕ → BenchRow
+  -- a solve of a task is refused with this number, whatever room is lent
+  refuses : Task → ℕ → BenchRow
+  -- a list works too for a task, and comes later than another
+  works-later : Task → List ℕ → List ℕ → BenchRow
+  -- after one edit of an opened session the listing gives this list, and the row of this fact is untouched
+  edits : Task → Edit → List ℕ → ℕ → BenchRow
 
 -- The row holds: the call's contract allows what the row says, and nothing else. For an edit: whatever opening and the edit may give.
 abbrev pub Holds : BenchRow → Type 0
 Holds (reads file bytes r) = (length file ≡ bytes) × Only (ReadsFile file) r
 Holds (lists file text) = (room : List ℕ) → Only (ListsInto file room) (given (bytesOf text) room)
 Holds (checks t c) = Only (λ (r : Checked). r ≡ checked t) c
-Holds (solves t v) = (room : List ℕ) → Only (Solves t room) (told v room)
-Holds (edits t e v kept) =
-    (s₀ s after : List ℕ) (r₀ : Reply) (r : Edited) → Opens t s₀ r₀ s → r₀ .number ≡ accepted → Edits t s e r after
-    → (r .number ≡ accepted) × ((room : List ℕ) → listed (r .task) after room ≡ told v room) × (rowAt after kept ≡ rowAt s kept)
+Holds (solves t l) = (room : List ℕ) → Only (Solves t room) (given l room)
+Holds (refuses t n) = (room : List ℕ) → Only (Solves t room) (refused n room)
+Holds (works-later t m l) = WorksFor t m × (m ≼ l → ⊥)
+Holds (edits t e l kept) =
+    (s₀ s after : List ℕ) (r₀ : Reply) (r : Edited) → Opens t s₀ r₀ s → r₀ .number ≡ 0 → Edits t s e r after
+    → (r .number ≡ 0) × ((room : List ℕ) → listed (r .task) after room ≡ given l room) × (rowAt after kept ≡ rowAt s kept)
 
 -- Every row of a list holds.
 pub data AllHold : List BenchRow → Type 0 where
@@ -79,42 +85,78 @@ refusedText = "refused 8 36\n"
 abbrev pub sheet : List BenchRow
 sheet =
     -- 1. Empty input: 1 at 0.
-    reads [] 0 (refusedRead noEnd 0) ∷
+    reads [] 0 (refusedRead 1 0) ∷
     -- 2. The file above: 36 bytes, list 97, 224.
     reads listingFile 36 (acceptedRead listingTask) ∷
     checks listingTask (openNeeds 2 3 1) ∷
-    solves listingTask (found (97 ∷ 224 ∷ [])) ∷
+    solves listingTask (97 ∷ 224 ∷ []) ∷
     lists listingFile listingText ∷
     -- 3. The same, L = 1: 10. L = 2: list 97, 224.
-    solves (limited 1) over ∷
-    solves (limited 2) (found (97 ∷ 224 ∷ [])) ∷
+    refuses (limited 1) 10 ∷
+    solves (limited 2) (97 ∷ 224 ∷ []) ∷
     -- 4. No steps, goals within start: empty list.
     checks goalsAtStart (openNeeds 0 0 0) ∷
-    solves goalsAtStart (found []) ∷
+    solves goalsAtStart [] ∷
     -- 5. No steps, goal 0, empty start: 9.
     checks goalOutOfReach (openNeeds 1 1 0) ∷
-    solves goalOutOfReach hopeless ∷
+    refuses goalOutOfReach 9 ∷
     -- 6. One action that adds and deletes fact 0, one step, goal 0, empty start: empty list.
     checks addsAndDeletes (openNeeds 0 0 0) ∷
-    solves addsAndDeletes (found []) ∷
+    solves addsAndDeletes [] ∷
     -- 7. One action that deletes 0, one step, start and goal 0: list 0 (32 works too, and comes later).
     checks deletesTheGoal (openNeeds 1 2 0) ∷
-    solves deletesTheGoal (found (0 ∷ [])) ∷
+    solves deletesTheGoal (0 ∷ []) ∷
+    works-later deletesTheGoal (32 ∷ []) (0 ∷ []) ∷
     -- 8. F 64, A 1, the action needs 63, one step, empty start, L 1: list 6112.
     checks needsLastFact (openNeeds 1 1 63) ∷
-    solves needsLastFact (found (6112 ∷ [])) ∷
+    solves needsLastFact (6112 ∷ []) ∷
     -- 9. Case 2, edit delete (1, 1) to absent: list 224, row 2 untouched.
-    edits listingTask deleteAbsent (found (224 ∷ [])) untouched ∷
+    edits listingTask deleteAbsent (224 ∷ []) untouched ∷
     -- 10. Case 2's first 35 bytes: 1 at 35. All 36 bytes with a byte 00 appended: 8 at 36.
-    reads withoutEnd 35 (refusedRead noEnd 35) ∷
-    reads byteAppended 37 (refusedRead bytesAfterEnd 36) ∷
+    reads withoutEnd 35 (refusedRead 1 35) ∷
+    reads byteAppended 37 (refusedRead 8 36) ∷
     lists byteAppended refusedText ∷
     -- 11. Case 2 with its last step 03: 5 at 33. As a task it is not well formed.
-    reads strayStep 36 (refusedRead numberOutside 33) ∷
-    checks strayTask (refusedCheck notWellFormed) ∷
+    reads strayStep 36 (refusedRead 5 33) ∷
+    checks strayTask (refusedCheck 12) ∷
     -- 12, which has no star, for the run check alone: six pairs, and seven.
     checks (pairs 6) (openNeeds 6 2 0) ∷
     checks (pairs 7) (openNeeds 7 2 0) ∷ []
+
+-- ---- 01's table of refusals, 1 to 8: small files of four facts, three actions and the limit 3
+
+abbrev sized : List ℕ → List ℕ
+sized rest = 1 ∷ 4 ∷ 3 ∷ 3 ∷ rest
+
+-- n steps of action 0
+unfoldable pub stepsOf : ℕ → List ℕ
+stepsOf zero = []
+stepsOf (suc n) = 7 ∷ 0 ∷ stepsOf n
+
+abbrev pub refusalFiles : List BenchRow
+refusalFiles =
+    -- 1: "no end record, or a body passes the end"
+    reads (sized []) 4 (refusedRead 1 4) ∷
+    reads (sized (4 ∷ 0 ∷ [])) 6 (refusedRead 1 4) ∷
+    -- 2: "unknown kind"
+    reads (sized (9 ∷ [])) 5 (refusedRead 2 4) ∷
+    -- 3: "first kind isn't 1, or 1 comes again"
+    reads (8 ∷ []) 1 (refusedRead 3 0) ∷
+    reads (sized (1 ∷ [])) 5 (refusedRead 3 4) ∷
+    -- 4: "a size is out of range"
+    reads (1 ∷ 65 ∷ 3 ∷ 3 ∷ []) 4 (refusedRead 4 0) ∷
+    reads (1 ∷ 4 ∷ 33 ∷ 3 ∷ []) 4 (refusedRead 4 0) ∷
+    reads (1 ∷ 4 ∷ 3 ∷ 7 ∷ []) 4 (refusedRead 4 0) ∷
+    -- 5: "fact or action outside"
+    reads (sized (2 ∷ 4 ∷ [])) 6 (refusedRead 5 4) ∷
+    reads (sized (4 ∷ 3 ∷ 0 ∷ [])) 7 (refusedRead 5 4) ∷
+    -- 6: "kind goes down, or body doesn't ascend"
+    reads (sized (3 ∷ 0 ∷ 2 ∷ 0 ∷ [])) 8 (refusedRead 6 6) ∷
+    reads (sized (2 ∷ 1 ∷ 2 ∷ 1 ∷ [])) 8 (refusedRead 6 6) ∷
+    -- 7: "a 65th step"
+    reads (sized (stepsOf 65)) 134 (refusedRead 7 132) ∷
+    -- 8: "bytes after the end", at the "first such byte"
+    reads (sized (8 ∷ 8 ∷ [])) 6 (refusedRead 8 5) ∷ []
 
 -- ---- the sources' own examples, facts and actions numbered in reading order
 
@@ -122,7 +164,7 @@ abbrev pub figures : List BenchRow
 figures =
     -- 001, Figure 1: facts q, f; actions a, b, c; plan a b a c. Of its shortest lists the order picks the paper's own: drop the delete
     -- of q by a (0) and add f to a (128). Adding q to a (32), since add wins, is as short and comes later.
-    solves (task 2 3 maxLimit (0b01 ∷ 0b11 ∷ 0b11 ∷ []) [] (0b01 ∷ 0b10 ∷ 0b01 ∷ []) 0b01 0 (0 ∷ 1 ∷ 0 ∷ 2 ∷ [])) (found (0 ∷ 128 ∷ [])) ∷
+    solves (task 2 3 maxLimit (0b01 ∷ 0b11 ∷ 0b11 ∷ []) [] (0b01 ∷ 0b10 ∷ 0b01 ∷ []) 0b01 0 (0 ∷ 1 ∷ 0 ∷ 2 ∷ [])) (0 ∷ 128 ∷ []) ∷
     -- 000, Figure 1. The drawing is not in our copy. Its text gives facts l, f, q, r, z; start l, goal z; plan a1 a2 a1 a3; a2 needs f; a3
     -- needs f and r; a1 deletes r. The rest is our reading: a1 needs l and adds q, a2 needs q and adds r, a3 adds z. Again the order picks
     -- the paper's own: add f to a1 (128) and drop its delete of r (288). Adding r to a1 (320) and dropping the need of r (354) are as short
@@ -130,4 +172,4 @@ figures =
     solves
     (task 5 3 maxLimit (0b00001 ∷ 0b00110 ∷ 0b01010 ∷ []) (0b00100 ∷ 0b01000 ∷ 0b10000 ∷ []) (0b01000 ∷ []) 0b00001 0b10000
     (0 ∷ 1 ∷ 0 ∷ 2 ∷ []))
-    (found (128 ∷ 288 ∷ [])) ∷ []
+    (128 ∷ 288 ∷ []) ∷ []

@@ -2,3 +2,4 @@
 pub mod PlaceLaws
 pub mod PlainCalls
 pub mod ReaderParts
+pub mod Called

@@ -1,3 +1,4 @@
 -- What other crates cite of `runcheck`.
 pub mod TallyLaws
 pub mod Valid
+pub mod Called

@@ -19,3 +19,4 @@ pub mod FileReads
 pub mod FileLength
 pub mod Cut
 pub mod Files
+pub mod Called

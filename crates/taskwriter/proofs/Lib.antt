@@ -2,3 +2,4 @@
 pub mod PieceLaws
 pub mod SectionLength
 pub mod WritingLaws
+pub mod Called

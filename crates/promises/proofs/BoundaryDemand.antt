@@ -1,0 +1,406 @@
+-- Demand 1 of the boundary's functions, said of the functions themselves (`Zp..Gives`: boundary/proofs/Called). What a call gives, o, is the
+-- number returned (.0), the answer's words (.1) and what else was lent to be written: the room or the table (.2), of zp_apply the task's words
+-- (.2), of zp_edit the task's words (.2) and the table (.3). Open Demands first. Assumes nothing.
+use mathlib.Core.Bool.{false}
+use mathlib.Core.List.{List, [], _∷_, _++_}
+use mathlib.Core.Path.{_≡_, sym, ap, _∙_}
+use Prim.Native.Nat.{ℕ, _<_, _≤_}
+use native.Mathlib.Omega.{arith}
+use lib.ListN.{length, getD, drop}
+use Rattle.boundary.proofs.AnsweringLaws.{answers-refused, answers-said}
+use Rattle.boundary.proofs.Called.{ZpRecordGives, zp-record-gives, zp-record-asks-nothing, ZpReadGives, zp-read-gives, zp-read-asks-nothing, ZpWriteGives, zp-write-gives, zp-write-asks-nothing, ZpCheckGives, zp-check-gives, zp-check-asks-nothing, ZpApplyGives, zp-apply-gives, zp-apply-asks-nothing, ZpSolveGives, zp-solve-gives, zp-solve-asks-nothing, ZpOpenGives, zp-open-gives, zp-open-asks-nothing, ZpEditGives, zp-edit-gives, zp-edit-asks-nothing, ZpListGives, zp-list-gives, zp-list-asks-nothing, ZpListingGives, zp-listing-gives, zp-listing-asks-nothing}
+use Rattle.boundary.proofs.LendingLaws.{lent-back-kept}
+use Rattle.boundary.proofs.RoundTrip.{other-length}
+use Rattle.boundary.proofs.zp_apply.Reads as zp-apply
+use Rattle.boundary.proofs.zp_check.Reads as zp-check
+use Rattle.boundary.proofs.zp_edit.Reads as zp-edit
+use Rattle.boundary.proofs.zp_list.Reads as zp-list
+use Rattle.boundary.proofs.zp_listing.Reads as zp-listing
+use Rattle.boundary.proofs.zp_open.Reads as zp-open
+use Rattle.boundary.proofs.zp_read.Reads as zp-read
+use Rattle.boundary.proofs.zp_record.Reads as zp-record
+use Rattle.boundary.proofs.zp_solve.Reads as zp-solve
+use Rattle.boundary.proofs.zp_write.Reads as zp-write
+use Rattle.boundary.specs.Answers.{Answers, changedLength, replyLength, changedWords, replyWords, checkedWords, taskAnswer}
+use Rattle.boundary.specs.Calls.{AnswersOutcome, HandsRecord, ReadsTask, WritesTask, ChecksRun, AppliesList, SolvesTask, OpensSession, EditsSession, ListsSession, ListsInput}
+use Rattle.boundary.specs.Words.{taskIn, lentBack}
+use Rattle.change.proofs.ApplyLaws.{applies-unformed, applies-unique}
+use Rattle.change.specs.Applying.{firstWrong, Applies}
+use Rattle.change.specs.Editing.{cellInside}
+use Rattle.change.specs.declared.Applied.{Applied}
+use Rattle.listing.specs.Listing.{ListsInto}
+use Rattle.session.proofs.CallLaws.{open-malformed, open-not-a-session, edit-malformed, edit-not-a-session, edit-outside, opens-refused, edits-refused, opens-unique, edits-unique, listed-malformed, listed-not-a-session}
+use Rattle.session.specs.Calls.{openRefusal, Opens, editRefusal, Edits, listed}
+use Rattle.session.specs.EditNumbers.{editOf}
+use Rattle.session.specs.Sessions.{inForm}
+use Rattle.session.specs.declared.Edited.{Edited}
+use Rattle.solve.specs.Solving.{Solves}
+use Rattle.table.proofs.FlagLaws.{by-order}
+use Rattle.table.proofs.Formation.{well-formed}
+use Rattle.table.specs.Answer.{Permitted}
+use Rattle.table.specs.Contracts.{AsksNothing}
+use Rattle.table.specs.Outcomes.{Outcome, refusal, refused}
+use Rattle.table.specs.Tasks.{cellsOf, formed, WellFormed}
+use Rattle.table.specs.declared.Reply.{Reply}
+use Rattle.table.specs.declared.Task.{Task}
+use Rattle.taskfile.specs.Format.{fileOf}
+use Rattle.taskfile.specs.Reading.{noTask, ReadsFile}
+use Rattle.taskfile.specs.declared.TaskRead.{TaskRead}
+use Rattle.taskwriter.proofs.WritingLaws.{written-unformed}
+use Rattle.taskwriter.specs.Writing.{written}
+use Rattle.promises.proofs.Demands.{Refused}
+use Rattle.promises.proofs.NumberLaws.{Listed, record-number, read-number, check-number, write-number, solve-number, list-number, listing-number, apply-number, open-number, edit-number}
+use Rattle.promises.proofs.RefusalLaws.{bad-file, write-keeps, check-malformed, bad-list, solve-keeps, list-keeps, listing-keeps}
+
+-- ---- the words
+
+-- What a call gives that is lent nothing besides the answer's room; what one gives that is lent one thing besides; and two.
+abbrev pub Alone : Type 0
+Alone = ℕ × List ℕ
+
+abbrev pub Lending : Type 0
+Lending = ℕ × List ℕ × List ℕ
+
+abbrev pub LendingTwo : Type 0
+LendingTwo = ℕ × List ℕ × List ℕ × List ℕ
+
+-- The call was made: these words stand first in the answer's room, nothing else of it was touched, and the first of them was returned.
+abbrev pub Said : List ℕ → List ℕ → ℕ → List ℕ → Type 0
+Said words answer r after = (r ≡ getD words 0 0) × (after ≡ words ++ drop (length words) answer)
+
+-- The rule of the answer's room, for an answer of n words: where they have no room 255 is returned and the room is as it was; else n words
+-- stand there first, the number returned before all, and the rest of the room is as it was. 255 is returned for nothing else.
+pub record AnswerRoom (n : ℕ) (answer : List ℕ) (r : ℕ) (after : List ℕ) : Type 0 where
+  pub short : length answer < n → (r ≡ 255) × (after ≡ answer)
+  pub only-short : r ≡ 255 → length answer < n
+  pub made : n ≤ length answer → (words : List ℕ) × (length words ≡ n) × (r ≡ getD words 0 0) × (after ≡ words ++ drop n answer)
+
+-- ---- what the demand says
+
+-- "Every call ends and is defined on every input": no function asks anything of its caller.
+pub record AllDefinedThere : Type 0 where
+  pub record-asks : AsksNothing zp-record.Pre
+  pub read-asks : AsksNothing zp-read.Pre
+  pub write-asks : AsksNothing zp-write.Pre
+  pub check-asks : AsksNothing zp-check.Pre
+  pub apply-asks : AsksNothing zp-apply.Pre
+  pub solve-asks : AsksNothing zp-solve.Pre
+  pub open-asks : AsksNothing zp-open.Pre
+  pub edit-asks : AsksNothing zp-edit.Pre
+  pub list-asks : AsksNothing zp-list.Pre
+  pub listing-asks : AsksNothing zp-listing.Pre
+
+-- The answer's room, of every function: its words are the one thing that a refused call writes, and one that was not made writes not even
+-- those.
+pub record AnswerRooms : Type 0 where
+  pub record-room : (file : List ℕ) (at : ℕ) (answer : List ℕ) (o : Alone) → ZpRecordGives file at answer o → AnswerRoom 6 answer (o .0) (o .1)
+  pub read-room : (file answer : List ℕ) (o : Alone) → ZpReadGives file answer o → AnswerRoom 168 answer (o .0) (o .1)
+  pub write-room : (ws room answer : List ℕ) (o : Lending) → ZpWriteGives ws room answer o → AnswerRoom 3 answer (o .0) (o .1)
+  pub check-room : (ws answer : List ℕ) (o : Alone) → ZpCheckGives ws answer o → AnswerRoom 5 answer (o .0) (o .1)
+  pub apply-room : (ws list answer : List ℕ) (o : Lending) → ZpApplyGives ws list answer o → AnswerRoom 2 answer (o .0) (o .1)
+  pub solve-room : (ws room answer : List ℕ) (o : Lending) → ZpSolveGives ws room answer o → AnswerRoom 3 answer (o .0) (o .1)
+  pub open-room : (ws table answer : List ℕ) (o : Lending) → ZpOpenGives ws table answer o → AnswerRoom 3 answer (o .0) (o .1)
+  pub edit-room : (ws : List ℕ) (kind action fact present : ℕ) (table answer : List ℕ) (o : LendingTwo)
+      → ZpEditGives ws kind action fact present table answer o → AnswerRoom 2 answer (o .0) (o .1)
+  pub list-room : (ws table room answer : List ℕ) (o : Lending) → ZpListGives ws table room answer o → AnswerRoom 3 answer (o .0) (o .1)
+  pub listing-room : (input room answer : List ℕ) (o : Lending) → ZpListingGives input room answer o → AnswerRoom 3 answer (o .0) (o .1)
+
+-- What every function says of words that are no well-formed task, whatever room is lent: 12 at 0, zeros, and all that was lent as it was.
+pub record BadWords (ws : List ℕ) : Type 0 where
+  pub write-it : (room answer : List ℕ) → 3 ≤ length answer → (o : Lending) → ZpWriteGives ws room answer o
+      → Said (12 ∷ 0 ∷ 0 ∷ []) answer (o .0) (o .1) × (o .2 ≡ room)
+  pub check-it : (answer : List ℕ) → 5 ≤ length answer → (o : Alone) → ZpCheckGives ws answer o
+      → Said (12 ∷ 0 ∷ 0 ∷ 0 ∷ 0 ∷ []) answer (o .0) (o .1)
+  pub apply-it : (list answer : List ℕ) → 2 ≤ length answer → (o : Lending) → ZpApplyGives ws list answer o
+      → Said (12 ∷ 0 ∷ []) answer (o .0) (o .1) × (o .2 ≡ ws)
+  pub solve-it : (room answer : List ℕ) → 3 ≤ length answer → (o : Lending) → ZpSolveGives ws room answer o
+      → Said (12 ∷ 0 ∷ 0 ∷ []) answer (o .0) (o .1) × (o .2 ≡ room)
+  pub open-it : (table answer : List ℕ) → 3 ≤ length answer → (o : Lending) → ZpOpenGives ws table answer o
+      → Said (12 ∷ 0 ∷ 0 ∷ []) answer (o .0) (o .1) × (o .2 ≡ table)
+  pub edit-it : (kind action fact present : ℕ) (table answer : List ℕ) → 2 ≤ length answer → (o : LendingTwo)
+      → ZpEditGives ws kind action fact present table answer o → Said (12 ∷ 0 ∷ []) answer (o .0) (o .1) × ((o .2 ≡ ws) × (o .3 ≡ table))
+  pub list-it : (table room answer : List ℕ) → 3 ≤ length answer → (o : Lending) → ZpListGives ws table room answer o
+      → Said (12 ∷ 0 ∷ 0 ∷ []) answer (o .0) (o .1) × (o .2 ≡ room)
+
+-- What the session's functions say of a well-formed task and a table of another length, or, in listing, not in form: 13 at 0.
+pub record BadTable (ws table : List ℕ) : Type 0 where
+  pub open-it : (length table ≡ 448 → ⊥) → (answer : List ℕ) → 3 ≤ length answer → (o : Lending) → ZpOpenGives ws table answer o
+      → Said (13 ∷ 0 ∷ 0 ∷ []) answer (o .0) (o .1) × (o .2 ≡ table)
+  pub edit-it : (length table ≡ 448 → ⊥) → (kind action fact present : ℕ) (answer : List ℕ) → 2 ≤ length answer → (o : LendingTwo)
+      → ZpEditGives ws kind action fact present table answer o → Said (13 ∷ 0 ∷ []) answer (o .0) (o .1) × ((o .2 ≡ ws) × (o .3 ≡ table))
+  pub list-it : inForm (taskIn ws) table ≡ false → (room answer : List ℕ) → 3 ≤ length answer → (o : Lending) → ZpListGives ws table room answer o
+      → Said (13 ∷ 0 ∷ 0 ∷ []) answer (o .0) (o .1) × (o .2 ≡ room)
+
+-- "Every call ends and is defined on every input. Bad files, tables, lists and edits get document 01's numbered refusal, and a refused
+-- call changes no byte or number lent to it."
+pub record BoundaryDemand : Type 0 where
+  pub defined : AllDefinedThere
+  pub answer-rooms : AnswerRooms
+  -- "Bad files": 1 to 8, and a task of zeros
+  pub bad-files : (file : List ℕ) → ((t : Task) → WellFormed t → file ≡ fileOf t → ⊥) → (answer : List ℕ) → 168 ≤ length answer → (o : Alone)
+      → ZpReadGives file answer o → (0 < o .0) × (o .0 ≤ 8) × ((place : ℕ) × (o .1 ≡ taskAnswer (o .0) place noTask ++ drop 168 answer))
+  -- "tables": of actions (12; another number of words than 166 is none), and of a session (13)
+  pub bad-words : (ws : List ℕ) → formed (taskIn ws) ≡ false → BadWords ws
+  pub other-words : (ws : List ℕ) → (length ws ≡ 166 → ⊥) → BadWords ws
+  pub bad-tables : (ws table : List ℕ) → WellFormed (taskIn ws) → BadTable ws table
+  -- "lists": 15 at the index of the first number that does not ascend or is not permitted
+  pub bad-lists : (ws list : List ℕ) → WellFormed (taskIn ws) → (Permitted (cellsOf (taskIn ws .table)) list → ⊥) → (answer : List ℕ)
+      → 2 ≤ length answer → (o : Lending) → ZpApplyGives ws list answer o
+      → Said (15 ∷ firstWrong (cellsOf (taskIn ws .table)) list ∷ []) answer (o .0) (o .1) × (o .2 ≡ ws)
+  -- "and edits": 14
+  pub bad-edits : (ws : List ℕ) (kind action fact present : ℕ) (table : List ℕ) → WellFormed (taskIn ws) → length table ≡ 448
+      → cellInside (taskIn ws) (editOf kind action fact present .cell) ≡ false → (answer : List ℕ) → 2 ≤ length answer → (o : LendingTwo)
+      → ZpEditGives ws kind action fact present table answer o → Said (14 ∷ 0 ∷ []) answer (o .0) (o .1) × ((o .2 ≡ ws) × (o .3 ≡ table))
+  -- "a refused call changes no byte or number lent to it", and no word but the answer's; one that was not made (255) counts as refused
+  pub write-changes-nothing : (ws room answer : List ℕ) (o : Lending) → ZpWriteGives ws room answer o → Refused (o .0) → o .2 ≡ room
+  pub apply-changes-nothing : (ws list answer : List ℕ) (o : Lending) → ZpApplyGives ws list answer o → Refused (o .0) → o .2 ≡ ws
+  pub solve-changes-nothing : (ws room answer : List ℕ) (o : Lending) → ZpSolveGives ws room answer o → Refused (o .0) → o .2 ≡ room
+  pub open-changes-nothing : (ws table answer : List ℕ) (o : Lending) → ZpOpenGives ws table answer o → Refused (o .0) → o .2 ≡ table
+  pub edit-changes-nothing : (ws : List ℕ) (kind action fact present : ℕ) (table answer : List ℕ) (o : LendingTwo)
+      → ZpEditGives ws kind action fact present table answer o → Refused (o .0) → (o .2 ≡ ws) × (o .3 ≡ table)
+  pub list-changes-nothing : (ws table room answer : List ℕ) (o : Lending) → ZpListGives ws table room answer o → Refused (o .0) → o .2 ≡ room
+  pub listing-changes-nothing : (input room answer : List ℕ) (o : Lending) → ZpListingGives input room answer o → Refused (o .0) → o .2 ≡ room
+
+-- ---- the answer's room
+
+-- The call was made with a number of 01's, and so not with 255.
+room-of : {n : ℕ} {Untouched : Type 0} {Told : List ℕ → Type 0} {answer after : List ℕ} {r : ℕ} → Answers n Untouched Told answer after r
+    → ((words : List ℕ) → Told words → Listed (getD words 0 0)) → AnswerRoom n answer r after
+room-of {n} {answer = answer} a number = record {
+  short = λ h. (a .short h .0, a .short h .1);
+  only-short = λ e.
+      by-order (length answer) n (λ h. h)
+      (λ h.
+      let x = a .given h in
+      absurd (omega (arith, x .3, number (x .0) (x .2))));
+  made = λ h.
+      let x = a .given h in
+      (x .0, x .1, x .3, x .4);
+}
+
+-- The first of the words is the number of the result that they are told of.
+listed-of : {Y : Type 0} (Inner : Y → Type 0) (out : Y → List ℕ) → ((y : Y) → Inner y → Listed (getD (out y) 0 0)) → (words : List ℕ)
+    → (y : Y) × Inner y × (words ≡ out y) → Listed (getD words 0 0)
+listed-of Inner out number words t = omega (arith, ap (λ w. getD w 0 0) (t .2), number (t .0) (t .1))
+
+outcome-room : (Gives : Outcome → Type 0) (room answer : List ℕ) (o : Lending) → AnswersOutcome room (o .2) Gives answer (o .1) (o .0)
+    → ((u : Outcome) → Gives u → Listed (u .reply .number)) → AnswerRoom 3 answer (o .0) (o .1)
+outcome-room Gives room answer o a number =
+    room-of a
+    (listed-of (λ y. Gives (record { reply = y; room = o .2 })) replyWords (λ y g. number (record { reply = y; room = o .2 }) g))
+
+rooms : AnswerRooms
+unfolding HandsRecord ReadsTask WritesTask ChecksRun AppliesList SolvesTask OpensSession EditsSession ListsSession ListsInput
+rooms = record {
+  record-room = λ file at answer o g.
+      room-of (zp-record-gives file at answer o g) (λ words e. omega (arith, ap (λ w. getD w 0 0) e, record-number file at));
+  read-room = λ file answer o g.
+      room-of (zp-read-gives file answer o g)
+      (listed-of (ReadsFile file) (λ (y : TaskRead). taskAnswer (y .number) (y .place) (y .task)) (read-number file));
+  write-room = λ ws room answer o g.
+      outcome-room (λ u. u ≡ written (taskIn ws) room) room answer o (zp-write-gives ws room answer o g) (write-number (taskIn ws) room);
+  check-room = λ ws answer o g.
+      room-of (zp-check-gives ws answer o g) (λ words e. omega (arith, ap (λ w. getD w 0 0) e, check-number (taskIn ws)));
+  apply-room = λ ws list answer o g.
+      room-of (zp-apply-gives ws list answer o g)
+      (listed-of (λ y. Applies (taskIn ws) list y × (o .2 ≡ lentBack ws (y .number) (y .task)))
+      (λ (y : Applied). changedWords (y .number) (y .place)) (λ y i. apply-number (taskIn ws) list y (i .0)));
+  solve-room = λ ws room answer o g.
+      outcome-room (Solves (taskIn ws) room) room answer o (zp-solve-gives ws room answer o g) (solve-number (taskIn ws) room);
+  open-room = λ ws table answer o g.
+      room-of (zp-open-gives ws table answer o g)
+      (listed-of (λ y. Opens (taskIn ws) table y (o .2)) replyWords (λ y i. open-number (taskIn ws) table y (o .2) i));
+  edit-room = λ ws kind action fact present table answer o g.
+      let e = editOf kind action fact present in
+      room-of (zp-edit-gives ws kind action fact present table answer o g)
+      (listed-of (λ y. Edits (taskIn ws) table e y (o .3) × (o .2 ≡ lentBack ws (y .number) (y .task)))
+      (λ (y : Edited). changedWords (y .number) (y .place)) (λ y i. edit-number (taskIn ws) table e y (o .3) (i .0)));
+  list-room = λ ws table room answer o g.
+      outcome-room (λ u. u ≡ listed (taskIn ws) table room) room answer o (zp-list-gives ws table room answer o g)
+      (list-number (taskIn ws) table room);
+  listing-room = λ input room answer o g.
+      outcome-room (ListsInto input room) room answer o (zp-listing-gives input room answer o g) (listing-number input room);
+}
+
+-- ---- what a refused call says, and that it leaves what was lent
+
+-- A call whose answer is that of an inner result y.
+abbrev Telling : {Y : Type 0} → ℕ → Type 0 → (Y → Type 0) → (Y → List ℕ) → List ℕ → List ℕ → ℕ → Type 0
+Telling {Y} n Untouched Inner out = Answers n Untouched (λ words. (y : Y) × Inner y × (words ≡ out y))
+
+module _ {Y Untouched Left : Type 0} (n : ℕ) (Inner : Y → Type 0) (out : Y → List ℕ) {answer after : List ℕ} {r : ℕ}
+    (a : Telling n Untouched Inner out answer after r) where
+  -- Where the only result is z, its words are said.
+  said-of : (z : Y) → ((y : Y) → Inner y → (y ≡ z) × Left) → n ≤ length answer
+      → ((r ≡ getD (out z) 0 0) × (after ≡ out z ++ drop n answer)) × Left
+  said-of z only h =
+      let x = a .given h in
+      (answers-said a h (out z) (λ words t. t .2 ∙ ap out (only (t .0) (t .1) .0)), only (x .2 .0) (x .2 .1) .1)
+
+  -- Where a refused result leaves what was lent, so does the call.
+  kept-of : (r ≡ 0 → ⊥) → (Untouched → Left) → ((y : Y) → Inner y → (getD (out y) 0 0 ≡ 0 → ⊥) → Left) → Left
+  kept-of nonzero short made =
+      answers-refused a nonzero short (λ words t first. made (t .0) (t .1) (λ e. first (ap (λ w. getD w 0 0) (t .2) ∙ e)))
+
+-- A call whose reply and room are one outcome.
+module _ (Gives : Outcome → Type 0) (room : List ℕ) {answer : List ℕ} (o : Lending) (a : AnswersOutcome room (o .2) Gives answer (o .1) (o .0)) where
+  abbrev With : Reply → Type 0
+  With y = Gives (record { reply = y; room = o .2 })
+
+  outcome-said : (n : ℕ) → ((u : Outcome) → Gives u → u ≡ refused n room) → 3 ≤ length answer
+      → Said (n ∷ 0 ∷ 0 ∷ []) answer (o .0) (o .1) × (o .2 ≡ room)
+  outcome-said n only =
+      said-of replyLength With replyWords a (refusal n)
+      (λ y g.
+      let e = only (record { reply = y; room = o .2 }) g in
+      (ap (λ (u : Outcome). u .reply) e, ap (λ (u : Outcome). u .room) e))
+
+  outcome-kept : ((u : Outcome) → Gives u → (u .reply .number ≡ 0 → ⊥) → u .room ≡ room) → Refused (o .0) → o .2 ≡ room
+  outcome-kept keeps nonzero = kept-of replyLength With replyWords a nonzero (λ e. e) (λ y g. keeps (record { reply = y; room = o .2 }) g)
+
+-- Opening, where the refusal is n at place 0.
+opened-said : (ws table answer : List ℕ) (o : Lending) → OpensSession ws table (o .2) answer (o .1) (o .0) → (n : ℕ) → 0 < n
+    → openRefusal (taskIn ws) table ≡ record { number = n; place = 0 } → 3 ≤ length answer
+    → Said (n ∷ 0 ∷ 0 ∷ []) answer (o .0) (o .1) × (o .2 ≡ table)
+unfolding OpensSession
+opened-said ws table answer o a n h e =
+    said-of replyLength (λ y. Opens (taskIn ws) table y (o .2)) replyWords a (refusal n)
+    (λ y g. opens-unique (taskIn ws) table y (refusal n) (o .2) table g (opens-refused (taskIn ws) table n h e))
+
+-- Applying a list, where only the refusal n at a place is given.
+applied-said : (ws list answer : List ℕ) (o : Lending) → AppliesList ws (o .2) list answer (o .1) (o .0) → (n place : ℕ) → 0 < n
+    → ((y : Applied) → Applies (taskIn ws) list y → y ≡ record { number = n; place = place; task = taskIn ws }) → 2 ≤ length answer
+    → Said (n ∷ place ∷ []) answer (o .0) (o .1) × (o .2 ≡ ws)
+unfolding AppliesList
+applied-said ws list answer o a n place h only =
+    said-of changedLength (λ y. Applies (taskIn ws) list y × (o .2 ≡ lentBack ws (y .number) (y .task)))
+    (λ (y : Applied). changedWords (y .number) (y .place)) a (record { number = n; place = place; task = taskIn ws })
+    (λ y g.
+    let e = only y (g .0) in
+    (e, g .1 ∙ ap (λ (u : Applied). lentBack ws (u .number) (u .task)) e ∙ lent-back-kept ws n (taskIn ws) (λ k. omega arith)))
+
+-- An edit, where the refusal is n at place 0.
+edited-said : (ws : List ℕ) (kind action fact present : ℕ) (table answer : List ℕ) (o : LendingTwo)
+    → EditsSession ws (o .2) kind action fact present table (o .3) answer (o .1) (o .0) → (n : ℕ) → 0 < n
+    → editRefusal (taskIn ws) table (editOf kind action fact present) ≡ record { number = n; place = 0 } → 2 ≤ length answer
+    → Said (n ∷ 0 ∷ []) answer (o .0) (o .1) × ((o .2 ≡ ws) × (o .3 ≡ table))
+unfolding EditsSession
+edited-said ws kind action fact present table answer o a n h r =
+    let e = editOf kind action fact present in
+    let z : Edited = record { number = n; place = 0; task = taskIn ws } in
+    said-of changedLength (λ y. Edits (taskIn ws) table e y (o .3) × (o .2 ≡ lentBack ws (y .number) (y .task)))
+    (λ (y : Edited). changedWords (y .number) (y .place)) a z
+    (λ y g.
+    let same = edits-unique (taskIn ws) table e y z (o .3) table (g .0) (edits-refused (taskIn ws) table e n h r) in (
+      same .0,
+      (
+        g .1 ∙ ap (λ (u : Edited). lentBack ws (u .number) (u .task)) (same .0) ∙ lent-back-kept ws n (taskIn ws) (λ k. omega arith),
+        same .1,
+      ),
+    ))
+
+-- ---- the theorems
+
+words-bad : (ws : List ℕ) → formed (taskIn ws) ≡ false → BadWords ws
+unfolding WritesTask ChecksRun SolvesTask ListsSession
+words-bad ws h =
+    let t = taskIn ws in
+    record {
+      write-it = λ room answer n o g.
+          outcome-said (λ u. u ≡ written t room) room o (zp-write-gives ws room answer o g) 12 (λ u e. e ∙ written-unformed t room h) n;
+      check-it = λ answer n o g.
+          answers-said (zp-check-gives ws answer o g) n (12 ∷ 0 ∷ 0 ∷ 0 ∷ 0 ∷ []) (λ words e. e ∙ ap checkedWords (check-malformed t h));
+      apply-it = λ list answer n o g.
+          applied-said ws list answer o (zp-apply-gives ws list answer o g) 12 0 (omega arith)
+          (λ y a. applies-unique t list y _ a (applies-unformed t list h)) n;
+      solve-it = λ room answer n o g.
+          outcome-said (Solves t room) room o (zp-solve-gives ws room answer o g) 12 (λ u s. s .malformed h) n;
+      open-it = λ table answer n o g.
+          opened-said ws table answer o (zp-open-gives ws table answer o g) 12 (omega arith) (open-malformed t table h) n;
+      edit-it = λ kind action fact present table answer n o g.
+          edited-said ws kind action fact present table answer o (zp-edit-gives ws kind action fact present table answer o g) 12 (omega arith)
+          (edit-malformed t table (editOf kind action fact present) h) n;
+      list-it = λ table room answer n o g.
+          outcome-said (λ u. u ≡ listed t table room) room o (zp-list-gives ws table room answer o g) 12
+          (λ u e. e ∙ listed-malformed t table room h) n;
+    }
+
+table-bad : (ws table : List ℕ) → WellFormed (taskIn ws) → BadTable ws table
+unfolding ListsSession
+table-bad ws table w =
+    let t = taskIn ws in
+    record {
+      open-it = λ other answer n o g.
+          opened-said ws table answer o (zp-open-gives ws table answer o g) 13 (omega arith) (open-not-a-session t table (well-formed t w) other) n;
+      edit-it = λ other kind action fact present answer n o g.
+          edited-said ws kind action fact present table answer o (zp-edit-gives ws kind action fact present table answer o g) 13 (omega arith)
+          (edit-not-a-session t table (editOf kind action fact present) (well-formed t w) other) n;
+      list-it = λ h room answer n o g.
+          outcome-said (λ u. u ≡ listed t table room) room o (zp-list-gives ws table room answer o g) 13
+          (λ u e. e ∙ listed-not-a-session t table room w h) n;
+    }
+
+file-bad : (file : List ℕ) → ((t : Task) → WellFormed t → file ≡ fileOf t → ⊥) → (answer : List ℕ) → 168 ≤ length answer → (o : Alone)
+    → ZpReadGives file answer o → (0 < o .0) × (o .0 ≤ 8) × ((place : ℕ) × (o .1 ≡ taskAnswer (o .0) place noTask ++ drop 168 answer))
+unfolding ReadsTask
+file-bad file none answer n o g =
+    let x = zp-read-gives file answer o g .given n in
+    let y = x .2 .0 in
+    let bad = bad-file file y (x .2 .1) none in
+    let number : o .0 ≡ y .number = x .3 ∙ ap (λ w. getD w 0 0) (x .2 .2) in (
+      omega (arith, bad .numbered),
+      omega (arith, bad .numbered),
+      (
+        y .place,
+        x .4 ∙ ap (λ w. w ++ drop 168 answer) (x .2 .2) ∙
+            (λ i. taskAnswer (sym number i) (y .place) (bad .zeros i) ++ drop 168 answer),
+      ),
+    )
+
+pub boundary-demand : BoundaryDemand
+unfolding WritesTask AppliesList SolvesTask OpensSession EditsSession ListsSession ListsInput
+boundary-demand = record {
+  defined = record {
+    record-asks = zp-record-asks-nothing;
+    read-asks = zp-read-asks-nothing;
+    write-asks = zp-write-asks-nothing;
+    check-asks = zp-check-asks-nothing;
+    apply-asks = zp-apply-asks-nothing;
+    solve-asks = zp-solve-asks-nothing;
+    open-asks = zp-open-asks-nothing;
+    edit-asks = zp-edit-asks-nothing;
+    list-asks = zp-list-asks-nothing;
+    listing-asks = zp-listing-asks-nothing;
+  };
+  answer-rooms = rooms;
+  bad-files = file-bad;
+  bad-words = words-bad;
+  other-words = λ ws h. words-bad ws (other-length ws h);
+  bad-tables = table-bad;
+  bad-lists = λ ws list w bad answer n o g.
+      applied-said ws list answer o (zp-apply-gives ws list answer o g) 15 (firstWrong (cellsOf (taskIn ws .table)) list) (omega arith)
+      (bad-list (taskIn ws) w (well-formed (taskIn ws) w) list bad) n;
+  bad-edits = λ ws kind action fact present table w h outside answer n o g.
+      edited-said ws kind action fact present table answer o (zp-edit-gives ws kind action fact present table answer o g) 14 (omega arith)
+      (edit-outside (taskIn ws) table (editOf kind action fact present) (well-formed (taskIn ws) w) h outside) n;
+  write-changes-nothing = λ ws room answer o g.
+      outcome-kept (λ u. u ≡ written (taskIn ws) room) room o (zp-write-gives ws room answer o g) (write-keeps (taskIn ws) room);
+  apply-changes-nothing = λ ws list answer o g nonzero.
+      kept-of changedLength (λ y. Applies (taskIn ws) list y × (o .2 ≡ lentBack ws (y .number) (y .task)))
+      (λ (y : Applied). changedWords (y .number) (y .place)) (zp-apply-gives ws list answer o g) nonzero (λ e. e)
+      (λ y i first. i .1 ∙ lent-back-kept ws (y .number) (y .task) first);
+  solve-changes-nothing = λ ws room answer o g.
+      outcome-kept (Solves (taskIn ws) room) room o (zp-solve-gives ws room answer o g) (solve-keeps (taskIn ws) room);
+  open-changes-nothing = λ ws table answer o g nonzero.
+      kept-of replyLength (λ y. Opens (taskIn ws) table y (o .2)) replyWords (zp-open-gives ws table answer o g) nonzero (λ e. e)
+      (λ y i first. i .refused first .1);
+  edit-changes-nothing = λ ws kind action fact present table answer o g nonzero.
+      kept-of changedLength
+      (λ y. Edits (taskIn ws) table (editOf kind action fact present) y (o .3) × (o .2 ≡ lentBack ws (y .number) (y .task)))
+      (λ (y : Edited). changedWords (y .number) (y .place)) (zp-edit-gives ws kind action fact present table answer o g) nonzero (λ e. e)
+      (λ y i first. (i .1 ∙ lent-back-kept ws (y .number) (y .task) first, i .0 .refused first .1));
+  list-changes-nothing = λ ws table room answer o g.
+      outcome-kept (λ u. u ≡ listed (taskIn ws) table room) room o (zp-list-gives ws table room answer o g) (list-keeps (taskIn ws) table room);
+  listing-changes-nothing = λ input room answer o g.
+      outcome-kept (ListsInto input room) room o (zp-listing-gives input room answer o g) (listing-keeps input room);
+}
