@@ -6,7 +6,7 @@ use Prim.Native.Nat.{ℕ}
 use native.Mathlib.Omega.{arith}
 use borrow.Author.Tests.{eq-eqb, ne-eqb, eqb-true, eqb-false}
 use lib.Dec.{eqb}
-use lib.ListN.{length, drop, drop-of-length-le}
+use lib.ListN.{length, drop-of-length-le}
 use Rattle.change.proofs.ApplyLaws.{applies-unformed, applies-unique}
 use Rattle.change.specs.Applying.{Applies}
 use Rattle.change.specs.declared.Applied.{Applied}

@@ -14,7 +14,7 @@ use Rattle.facts.specs.Sets.{width, has}
 use Rattle.table.proofs.Formation.{formed-well}
 use Rattle.table.proofs.FlagLaws.{same-flag, both, and-both}
 use Rattle.table.proofs.OrderLaws.{isIn-append}
-use Rattle.table.proofs.RepairNumbers.{kindOf-lt, actionOf-lt, permitted-inside, permitted-number, permits-inside}
+use Rattle.table.proofs.RepairNumbers.{kind-cases, kindOf-lt, actionOf-lt, permitted-inside, permitted-number, permits-inside}
 use Rattle.table.proofs.RunLaws.{sameCourse-refl, right-same, right-valid, valid-right}
 use Rattle.table.specs.Answer.{Permitted}
 use Rattle.table.specs.Order.{isIn}
@@ -29,7 +29,7 @@ use Rattle.table.specs.declared.Task.{Task}
 use Rattle.change.specs.Applying.{firstWrong, applyRefusal, AppliedTo, Applies}
 use Rattle.change.specs.declared.Applied.{Applied}
 use Rattle.change.specs.Kinds.{numberSet, oneByOne}
-use Rattle.change.proofs.KindLaws.{kind-cases, Long, shaped-long, long-shaped, long-kindSet, cell-kindSet, sizes-kindSet}
+use Rattle.change.proofs.KindLaws.{Long, shaped-long, long-shaped, long-kindSet, cell-kindSet, sizes-kindSet}
 use Rattle.change.proofs.SameLaws.{outside-well, same-table}
 use Rattle.change.proofs.MemberLaws.{getD-isIn}
 use Rattle.change.proofs.PermittedLaws.{firstWrong-le, permitted-list}

@@ -3,12 +3,14 @@
 use mathlib.Core.Bool.{Bool, true, false, _&&_, cond, false≢true}
 use mathlib.Core.List.{List}
 use mathlib.Core.Path.{_≡_, refl, sym, ap, _∙_}
-use Prim.Native.Nat.{ℕ, _<_, _≤_}
+use Prim.Native.Nat.{ℕ, _<_}
 use native.Mathlib.Omega.{arith}
 use lib.Dec.{eqb, ltb}
 use borrow.Author.Tests.{ltb-true, eqb-true, eq-eqb, ne-eqb}
 use Rattle.facts.specs.Sets.{width, has}
 use Rattle.facts.proofs.Laws.{same-sets}
+use Rattle.table.proofs.RepairNumbers.{kind-cases}
+use Rattle.table.proofs.SettingLaws.{has-setFact}
 use Rattle.table.proofs.FlagLaws.{both, and-both}
 use Rattle.table.specs.Repairs.{dropDelete, addEffect, dropNeed, byKind}
 use Rattle.table.specs.Sizes.{kinds}
@@ -20,7 +22,7 @@ use Rattle.change.specs.Kinds.{kindSet}
 use Rattle.change.specs.declared.Cell.{Cell}
 use Rattle.change.specs.declared.Cell.the-variants.{Need, Add, Delete, Start, Goal}
 use Rattle.change.specs.declared.Edit.{Edit}
-use Rattle.change.proofs.KindLaws.{kind-cases, shaped-long, long-shaped, long-kindSet, cell-kindSet, sizes-kindSet, has-setFact}
+use Rattle.change.proofs.KindLaws.{shaped-long, long-shaped, long-kindSet, cell-kindSet, sizes-kindSet}
 use Rattle.change.proofs.SameLaws.{SameSizes, SameFact, same-table, outside-well, same-back, keeps-same}
 
 -- ---- a need, an add or a delete: once over the kind

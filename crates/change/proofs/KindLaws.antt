@@ -1,32 +1,25 @@
 -- Laws of one cell of a table, once over the kind of repair that concerns it: what `kindSet` changes and what it leaves. Assumes nothing.
-use mathlib.Core.Bool.{Bool, true, false, not, _&&_, _||_, cond, Bool·beq, or-true, or-false, and-true, and-false}
+use mathlib.Core.Bool.{Bool, true, false, not, _&&_, cond, Bool·beq}
 use mathlib.Core.List.{List}
 use mathlib.Core.Path.{_≡_, refl, sym, ap, _∙_, subst}
-use Prim.Native.Nat.{ℕ, zero, suc, _+_, _<_, _≤_}
+use Prim.Native.Nat.{ℕ, _+_, _<_, _≤_}
 use native.Mathlib.Numerals.{add-one}
 use native.Mathlib.Omega.{arith}
 use lib.Dec.{eqb, ltb}
-use lib.ListN.{length, getD, set, length-set}
-use lib.Seq.{getD-set-same, getD-set-other}
-use borrow.Author.Tests.{eqb-true, eqb-false}
+use lib.ListN.{length, getD, length-set}
+use borrow.Author.Tests.{eqb-true}
 use Rattle.facts.specs.Sets.{width, has}
-use Rattle.facts.proofs.Laws.{has-with, has-without}
 use Rattle.table.specs.Repairs.{dropDelete, addEffect, dropNeed, byKind, factOf, kindOf, actionOf, permits, permitted}
 use Rattle.table.specs.Sizes.{maxActions, kinds}
 use Rattle.table.specs.Tasks.{cellsOf, maskOf, Shaped}
 use Rattle.table.specs.declared.Table.{Table}
 use Rattle.table.specs.declared.Task.{Task}
+use Rattle.table.proofs.RepairNumbers.{kind-cases}
+use Rattle.table.proofs.SettingLaws.{has-setFact, getD-setCell}
 use Rattle.table.specs.Setting.{setFact, setCell}
 use Rattle.change.specs.Kinds.{kindSet, numberSet, oneByOne}
 
 -- ---- the three kinds alike
-
--- what holds of each of the three kinds holds of every kind
-pub kind-cases : (P : ℕ → Type 0) → P dropDelete → P addEffect → P dropNeed → (k : ℕ) → k < kinds → P k
-kind-cases P d a n zero h = d
-kind-cases P d a n (suc zero) h = a
-kind-cases P d a n (suc (suc zero)) h = n
-kind-cases P d a n (suc (suc (suc k))) h = absurd (omega arith)
 
 -- the deletes, adds or needs of all actions, by the kind
 abbrev pub setsOf : Table → ℕ → List ℕ
@@ -50,30 +43,7 @@ long-shaped u t long s = record {
   steps = s .steps;
 }
 
--- ---- one fact of a set, one set of a row, one row of a table
-
-pub has-setFact : (m f : ℕ) (p : Bool) (g : ℕ) → f < width → has (setFact m f p) g ≡ cond (eqb g f) p (has m g)
-has-setFact m f true g h = has-with m f g h ∙ put (has m g) (eqb g f)
-  where
-    put : (b e : Bool) → (b || e) ≡ cond e true b
-    put b true = or-true b
-    put b false = or-false b
-has-setFact m f false g h = has-without m f g h ∙ take (has m g) (eqb g f)
-  where
-    take : (b e : Bool) → (b && not e) ≡ cond e false b
-    take b true = and-false b
-    take b false = and-true b
-
-getD-setCell : (s : List ℕ) (a f : ℕ) (p : Bool) (b : ℕ) → a < length s
-    → getD (setCell s a f p) b 0 ≡ cond (eqb b a) (setFact (getD s b 0) f p) (getD s b 0)
-getD-setCell s a f p b h = pick (eqb b a) refl
-  where
-    pick : (e : Bool) → eqb b a ≡ e → getD (set s a (setFact (getD s a 0) f p)) b 0 ≡ cond e (setFact (getD s b 0) f p) (getD s b 0)
-    pick true e =
-        let same : a ≡ b = omega (arith, eqb-true b a e) in
-        subst (λ (j : ℕ). getD (set s a (setFact (getD s a 0) f p)) j 0 ≡ setFact (getD s j 0) f p) same
-        (getD-set-same s a (setFact (getD s a 0) f p) 0 h)
-    pick false e = getD-set-other s a b (setFact (getD s a 0) f p) 0 (eqb-false b a e)
+-- ---- one row of a table
 
 module _ (t : Table) (a f : ℕ) (p : Bool) where
   sets-kindSet : (k : ℕ) → k < kinds → (j : ℕ) → j < kinds

@@ -1,15 +1,14 @@
 -- How many facts are in a mask, and which is the lowest: counts as sums of bits, trailing zeros as a place. Proved by halving. Assumes nothing.
-use mathlib.Core.Bool.{true, false, cond, true≢false}
-use mathlib.Core.Path.{_≡_, refl, sym, ap, _∙_}
+use mathlib.Core.Bool.{true, false, cond}
+use mathlib.Core.Path.{_≡_, refl, ap, _∙_}
 use Prim.Native.Nat.{ℕ, zero, suc, _+_, _/_, _%_, _^_, _≤_, _<_}
 use native.Mathlib.Nat.{le-of-suc-le-suc, not-suc-le-zero, zero-lt-suc, mod-lt}
 use native.Mathlib.Omega.{arith}
-use lib.Arith.{bin-ind, lt-of-le-ne}
+use lib.Arith.{bin-ind}
 use lib.Count.{ones, ones-step, ones-le, trailingZeros, trailing-of-zero, trailing-le, under}
 use lib.Dec.{eqb}
 use Rattle.facts.specs.Sets.{width, bit, has, count, lowest, sumBits}
 use Rattle.facts.proofs.Digits.{digit, bit-lt, bit-first, bit-half, has-half}
-use Rattle.facts.proofs.Laws.{has-empty, has-out, same-sets}
 
 -- ---- the count
 
@@ -46,12 +45,6 @@ unfolding count
 count-none =
     bin-ind (λ (n : ℕ). ones n ≡ 0 → n ≡ 0) (λ _. refl)
     (λ n rest e. let half = rest (omega (arith, ones-step n)) in omega (arith, ones-step n))
-
-pub count-zero : (m f : ℕ) → count m ≡ 0 → has m f ≡ false
-count-zero m f e = ap (λ (x : ℕ). has x f) (count-none m e) ∙ has-empty f
-
-pub zero-count : (m : ℕ) → ((f : ℕ) → has m f ≡ false) → count m ≡ 0
-zero-count m none = ap count (same-sets m 0 (λ f. none f ∙ sym (has-empty f))) ∙ count-empty
 
 -- ---- the lowest
 
@@ -98,10 +91,6 @@ lowest-first = trailing-first width
 pub lowest-le : (m : ℕ) → lowest m ≤ width
 unfolding lowest
 lowest-le = trailing-le width
-
-pub lowest-lt : (m : ℕ) → 0 < m → m < 2 ^ width → lowest m < width
-lowest-lt m p h =
-    lt-of-le-ne (lowest-le m) (λ e. true≢false (sym (lowest-has m p h) ∙ ap (has m) e ∙ has-out m width h))
 
 pub lowest-empty : lowest 0 ≡ width
 unfolding lowest

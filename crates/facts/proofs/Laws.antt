@@ -1,13 +1,13 @@
 -- The laws of sets held as masks: what is in the result of each operation, how large a mask is, and that a mask is known by what is in it.
 -- Each is proved once for every fact number, 63 and 64 included. Assumes nothing.
-use mathlib.Core.Bool.{Bool, true, false, not, _&&_, _||_, cond, true≢false}
+use mathlib.Core.Bool.{Bool, true, false, not, _&&_, _||_, true≢false}
 use mathlib.Core.Path.{_≡_, refl, sym, ap, _∙_}
 use Prim.Native.Nat.{ℕ, zero, suc, _+_, _-_, _/_, _%_, _^_, _≤_, _<_, min, max, zero-le, suc-le-suc}
-use native.Mathlib.Nat.{lt-of-lt-of-le, lt-of-not-le, zero-lt-suc, div-eq-of-lt, zero-div, min-le-right}
+use native.Mathlib.Nat.{lt-of-lt-of-le, lt-of-not-le, zero-lt-suc, div-eq-of-lt, zero-div}
 use native.Mathlib.Omega.{arith}
 use lib.Bits.{and-le-l, or-lt}
 use lib.Dec.{eqb, ltb, eqb·zero-suc, eqb·suc-zero, eqb·suc-suc, leb·suc-zero, leb·suc-suc}
-use lib.Pow.{pow-pos, pow-mono, pow-lt, ones-lt}
+use lib.Pow.{pow-pos, pow-mono}
 use borrow.Author.Tests.{ltb-true, lt-ltb, le-ltb}
 use Rattle.facts.specs.Sets.{width, bit, has, only, joined, shared, removed, below, within}
 use Rattle.facts.proofs.Digits.{digits, digit-same, bit-lt, bit-first, has-half, bit-joined, bit-shared, bit-removed}
@@ -149,15 +149,3 @@ shared-lt k a b h = omega (arith, and-le-l a b)
 pub removed-lt : (k a b : ℕ) → a < 2 ^ k → removed a b < 2 ^ k
 unfolding removed
 removed-lt k a b h = omega arith
-
-pub only-lt : (f : ℕ) → only f < 2 ^ width
-unfolding only
-only-lt f = at (ltb f width) refl
-  where
-    at : (b : Bool) → ltb f width ≡ b → cond b (2 ^ f) 0 < 2 ^ width
-    at true e = pow-lt (ltb-true f width e)
-    at false e = pow-pos width
-
-pub below-lt : (n : ℕ) → below n < 2 ^ width
-unfolding below
-below-lt n = lt-of-lt-of-le (ones-lt (min n width)) (pow-mono (min-le-right n width))

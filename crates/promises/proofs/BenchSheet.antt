@@ -30,7 +30,8 @@ use Rattle.table.specs.Deciding.{isRight, isShaped}
 use Rattle.table.specs.Answer.{Verdict, found, over, hopeless}
 use Rattle.table.specs.Bench.{listingTask, limited, strayTask, goalsAtStart, goalOutOfReach, addsAndDeletes, deletesTheGoal, needsLastFact, pairSteps, pairs}
 use Rattle.table.specs.Counting.{sumBelow, countBelow, firstWhere, everyBelow, someBelow}
-use Rattle.table.specs.Join.{isHopeless, isOver, foundList, joinLists, joinVerdicts}
+use Rattle.table.specs.Join.{isHopeless, isOver, foundList, joinVerdicts}
+use Rattle.table.specs.Lists.{gather}
 use Rattle.table.specs.Order.{isIn}
 use Rattle.table.specs.Refusals.{firstOf}
 use Rattle.table.specs.Repairs.{permits, permitted, chosen}
@@ -130,7 +131,7 @@ later-row = (worked .row-7 .1, worked .row-7 .2)
 
 -- All lists under one, so that what is computed is named once.
 computed : AllHold sheet × AllHold refusalFiles × AllHold figures
-unfolding readFile readFrom faultsAt firstOf isKind isCellKind isFactKind bodyLength bodyAt misplaced sizesWrong outside disordered tableAfter runAfter seenAfter checked openReport totalOpen firstOpen lowestOpen openAt isOpen sumBelow countBelow firstWhere pairSteps stepsOf certified certifies mends isRightWith isRight isShaped ofFact formed sizesFormed actionFormed maskFormed stepFormed everyBelow cellsOf courseOf stateAt permitted permits chosen isIn has within joined removed only cellSet joinVerdicts joinLists someBelow isHopeless isOver foundList cellInside names
+unfolding readFile readFrom faultsAt firstOf isKind isCellKind isFactKind bodyLength bodyAt misplaced sizesWrong outside disordered tableAfter runAfter seenAfter checked openReport totalOpen firstOpen lowestOpen openAt isOpen sumBelow countBelow firstWhere pairSteps stepsOf certified certifies mends isRightWith isRight isShaped ofFact formed sizesFormed actionFormed maskFormed stepFormed everyBelow cellsOf courseOf stateAt permitted permits chosen isIn has within joined removed only cellSet joinVerdicts gather someBelow isHopeless isOver foundList cellInside names
 computed = (
   read-row _ _ _ refl refl and
       read-row _ _ _ refl refl and

@@ -50,7 +50,7 @@ use Rattle.taskwriter.proofs.WritingLaws.{written-unformed}
 use Rattle.taskwriter.specs.Writing.{written}
 use Rattle.promises.proofs.Demands.{Refused}
 use Rattle.promises.proofs.NumberLaws.{Listed, record-number, read-number, check-number, write-number, solve-number, list-number, listing-number, apply-number, open-number, edit-number}
-use Rattle.promises.proofs.RefusalLaws.{bad-file, write-keeps, check-malformed, bad-list, solve-keeps, list-keeps, listing-keeps}
+use Rattle.promises.proofs.BadInputLaws.{bad-file, write-keeps, check-malformed, bad-list, solve-keeps, list-keeps, listing-keeps}
 
 -- ---- the words
 

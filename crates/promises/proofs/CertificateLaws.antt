@@ -1,5 +1,5 @@
 -- What a certificate says: the verdict on the fact, and so the outcome of solving the task. Assumes nothing.
-use mathlib.Core.Bool.{true, false, not, true≢false}
+use mathlib.Core.Bool.{true, not, true≢false}
 use mathlib.Core.List.{List, [], _∷_}
 use mathlib.Core.Logic.{_⊎_, inl, inr}
 use mathlib.Core.Path.{_≡_, refl, sym, ap, _∙_, subst}
@@ -11,7 +11,8 @@ use Rattle.solve.proofs.SolveLaws.{solve-unique}
 use Rattle.table.specs.Counting.{everyBelow}
 use Rattle.table.proofs.DecidingLaws.{is-right, right-is, is-shaped}
 use Rattle.table.proofs.FlagLaws.{both, and-both}
-use Rattle.table.proofs.Formation.{everyBelow-all, formed-well}
+use Rattle.table.proofs.CountingLaws.{everyBelow-all}
+use Rattle.table.proofs.Formation.{formed-well}
 use Rattle.table.proofs.JoinLaws.{permitted-none, join-for}
 use Rattle.table.proofs.OrderLaws.{compared, isIn-none, isIn-head, isIn-cases, ≼-none}
 use Rattle.table.proofs.RunLaws.{stateAt-first}

@@ -72,7 +72,7 @@ use Rattle.taskwriter.proofs.Called.{WriteGives, write-gives, write-asks-nothin
 use Rattle.taskwriter.proofs.WritingLaws.{written-unformed, written-file}
 use Rattle.taskwriter.proofs.write.Reads as write
 use Rattle.promises.proofs.FileLaws.{read-is-exact, reads-back, writes-back}
-use Rattle.promises.proofs.RefusalLaws.{BadFile, bad-file, write-keeps, check-malformed, bad-list, solve-keeps, list-keeps, listing-keeps}
+use Rattle.promises.proofs.BadInputLaws.{BadFile, bad-file, write-keeps, check-malformed, bad-list, solve-keeps, list-keeps, listing-keeps}
 use Rattle.promises.proofs.SolvedLaws.{least-length, least-first, accepted-answer, over-exactly, hopeless-exactly, short-exactly, works-cures}
 
 -- A call is refused: its number is not 0.

@@ -1,15 +1,13 @@
 -- What demand 2 needs of reading and writing: a file is accepted exactly if it is a task's, and both round trips. Assumes nothing.
-use mathlib.Core.Bool.{Bool, true, false, cond}
-use mathlib.Core.List.{List, _++_}
+use mathlib.Core.List.{List}
 use mathlib.Core.Logic.{_↔_}
-use mathlib.Core.Path.{_≡_, refl, sym, ap, _∙_, subst}
-use Prim.Native.Nat.{ℕ, _<_, _≤_}
+use mathlib.Core.Path.{_≡_, sym, ap, _∙_, subst}
+use Prim.Native.Nat.{ℕ, _≤_}
 use native.Mathlib.Omega.{arith}
 use lib.ListN.{length, take, drop}
 use lib.Seq.{take-append-seam}
 use Rattle.table.proofs.Formation.{well-formed}
-use Rattle.table.proofs.OutcomeLaws.{given-cases}
-use Rattle.table.specs.Outcomes.{Outcome, answered, given}
+use Rattle.table.specs.Outcomes.{Outcome, answered}
 use Rattle.table.specs.Tasks.{WellFormed}
 use Rattle.table.specs.declared.Task.{Task}
 use Rattle.taskfile.proofs.Called.{ReadGives, read-gives}

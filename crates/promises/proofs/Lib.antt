@@ -4,7 +4,7 @@ pub mod BenchSheet
 pub mod OneResult
 pub mod Unique
 pub mod UniqueBoundary
-pub mod RefusalLaws
+pub mod BadInputLaws
 pub mod FileLaws
 pub mod SolvedLaws
 pub mod Demands

@@ -32,7 +32,8 @@ use Rattle.taskfile.specs.Records.{recordFault, recordAt, wholeRecord, refusedR
 use Rattle.taskfile.specs.declared.TaskRead.{TaskRead}
 use Rattle.taskfile.specs.declared.record.Record.{Record}
 use Rattle.taskwriter.specs.Writing.{written}
-use Rattle.promises.proofs.RefusalLaws.{firstOf-bounded, bad-from}
+use Rattle.promises.proofs.BadInputLaws.{bad-from}
+use Rattle.table.proofs.RefusalLaws.{firstOf-bounded}
 
 -- A number of document 01's table.
 abbrev pub Listed : ℕ → Type 0

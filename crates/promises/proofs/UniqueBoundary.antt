@@ -23,7 +23,6 @@ use Rattle.session.specs.EditNumbers.{editOf}
 use Rattle.session.specs.declared.Edited.{Edited}
 use Rattle.solve.specs.Solving.{Solves}
 use Rattle.table.specs.Outcomes.{Outcome}
-use Rattle.table.specs.declared.Reply.{Reply}
 use Rattle.taskfile.specs.Reading.{ReadsFile}
 use Rattle.taskfile.specs.Records.{recordAt, bodyOf}
 use Rattle.taskfile.specs.declared.TaskRead.{TaskRead}

@@ -1,6 +1,6 @@
 -- A test that computing decides: the verdict on one fact, where its list has at most one repair. A tool for the bench sheet; what a
 -- verdict means is in table/specs/Answer.
-use mathlib.Core.Bool.{Bool, false, not, _&&_, _||_, cond}
+use mathlib.Core.Bool.{Bool, false, not, _&&_, cond}
 use mathlib.Core.List.{List, [], _∷_}
 use Prim.Native.Nat.{ℕ, _+_, _-_, _*_}
 use lib.Dec.{eqb}

@@ -12,11 +12,12 @@ use lib.ListN.{length, length-append}
 use Rattle.facts.specs.Sets.{has, joined, only}
 use Rattle.facts.proofs.Laws.{has-empty, has-joined, has-only}
 use Rattle.table.specs.Lists.{gather, piece}
-use Rattle.table.specs.Order.{isIn, AscendingFrom, Ascending, NotAfter, _≼_}
+use Rattle.table.specs.Order.{isIn, AscendingFrom, Ascending, _≼_}
 use Rattle.table.specs.Repairs.{byKind, factOf}
 use Rattle.table.specs.Sizes.{perFact, kinds}
 use Rattle.table.proofs.FlagLaws.{or-cases, or-left, or-right, and-left, and-right, and-both, same-flag, is-false}
 use Rattle.table.proofs.OrderLaws
+use Rattle.table.proofs.RepairNumbers.{kind-cases}
 use Rattle.search.specs.declared.Choice.{Choice}
 use Rattle.search.specs.Choices.{codeKind, codeAction, codeNumber, nothing, inChoice, numbersIn, listOf, Contains}
 use Rattle.search.specs.Trying.{withMask, maskIn, withRepair, bothOf, FirstDifference, Earlier}
@@ -202,20 +203,13 @@ in-nothing code = ap (λ m. has m (codeAction code)) (none (codeKind code)) ∙ 
 
 -- ---- one repair more
 
--- The kinds, one by one.
-by-kinds : (Q : ℕ → Type 0) → Q 0 → Q 1 → Q 2 → (k : ℕ) → k < kinds → Q k
-by-kinds Q a b c zero h = a
-by-kinds Q a b c (suc zero) h = b
-by-kinds Q a b c (suc (suc zero)) h = c
-by-kinds Q a b c (suc (suc (suc k))) h = absurd (omega arith)
-
 maskIn-with : (j k m : ℕ) (s : Choice) → j < kinds → k < kinds → maskIn j (withMask k m s) ≡ cond (eqb j k) m (maskIn j s)
 maskIn-with j k m s hj hk =
-    by-kinds (λ k. maskIn j (withMask k m s) ≡ cond (eqb j k) m (maskIn j s)) (at 0 refl refl refl) (at 1 refl refl refl) (at 2 refl refl refl) k hk
+    kind-cases (λ k. maskIn j (withMask k m s) ≡ cond (eqb j k) m (maskIn j s)) (at 0 refl refl refl) (at 1 refl refl refl) (at 2 refl refl refl) k hk
   where
     at : (k : ℕ) → maskIn 0 (withMask k m s) ≡ cond (eqb 0 k) m (maskIn 0 s) → maskIn 1 (withMask k m s) ≡ cond (eqb 1 k) m (maskIn 1 s)
         → maskIn 2 (withMask k m s) ≡ cond (eqb 2 k) m (maskIn 2 s) → maskIn j (withMask k m s) ≡ cond (eqb j k) m (maskIn j s)
-    at k a b c = by-kinds (λ j. maskIn j (withMask k m s) ≡ cond (eqb j k) m (maskIn j s)) a b c j hj
+    at k a b c = kind-cases (λ j. maskIn j (withMask k m s) ≡ cond (eqb j k) m (maskIn j s)) a b c j hj
 
 -- The codes of a set with one repair more: that one, and the set's own.
 pub in-with : (s : Choice) (code c : ℕ) → code < perFact → c < perFact → inChoice (withRepair s code) c ≡ (eqb c code || inChoice s c)
@@ -316,51 +310,6 @@ agree-below f a b code same m h t =
     let low : d .code < code = omega (arith, d .number) in
     subst (λ k. isIn (listOf f b) k ≡ true) (sym (d .number)) (listOf-has f b (d .code) (d .below) (sym (same (d .code) low) ∙ d .chosen))
 
--- Of two ascending lists of equal length, the one that has the first number in which they differ comes first.
-pub first-difference-first : (la lb : ℕ) (a b : List ℕ) (n : ℕ) → AscendingFrom la a → AscendingFrom lb b → length a ≡ length b
-    → isIn a n ≡ true → (isIn b n ≡ true → ⊥) → ((m : ℕ) → m < n → isIn a m ≡ true → isIn b m ≡ true)
-    → ((m : ℕ) → m < n → isIn b m ≡ true → isIn a m ≡ true) → NotAfter a b
-first-difference-first la lb [] b n u v e here gone there back = absurd (OrderLaws.isIn-none n here)
-first-difference-first la lb (x ∷ a) [] n u v e here gone there back = absurd (omega arith)
-first-difference-first la lb (x ∷ a) (y ∷ b) n u v e here gone there back =
-    pick (OrderLaws.compared x y) (first-difference-first (suc x) (suc y) a b n (u .1) (v .1))
-  where
-    same : length a ≡ length b
-    same = omega arith
-
-    x-le : x ≤ n
-    x-le = OrderLaws.ascending-later x (x ∷ a) n (omega arith, u .1) here
-
-    in-tail : (z w m : ℕ) (l k : List ℕ) → AscendingFrom (suc z) l → z ≡ w → isIn l m ≡ true → isIn (w ∷ k) m ≡ true → isIn k m ≡ true
-    in-tail z w m l k asc zw t h = cases (OrderLaws.isIn-cases w k m h)
-      where
-        cases : (m ≡ w) ⊎ (isIn k m ≡ true) → isIn k m ≡ true
-        cases (inl q) = absurd (omega (arith, OrderLaws.ascending-later (suc z) l m asc t))
-        cases (inr q) = q
-
-    later : x ≡ y → isIn a n ≡ true
-    later q = cases (OrderLaws.isIn-cases x a n here)
-      where
-        cases : (n ≡ x) ⊎ (isIn a n ≡ true) → isIn a n ≡ true
-        cases (inl p) = absurd (gone (subst (λ k. isIn (k ∷ b) n ≡ true) q (subst (λ k. isIn (x ∷ b) k ≡ true) (sym p) (OrderLaws.isIn-head x b))))
-        cases (inr p) = p
-
-    pick : (x < y) ⊎ ((x ≡ y) ⊎ (y < x))
-        → (length a ≡ length b → isIn a n ≡ true → (isIn b n ≡ true → ⊥) → ((m : ℕ) → m < n → isIn a m ≡ true → isIn b m ≡ true)
-        → ((m : ℕ) → m < n → isIn b m ≡ true → isIn a m ≡ true) → NotAfter a b)
-        → NotAfter (x ∷ a) (y ∷ b)
-    pick (inl p) rest = inl (p, same)
-    pick (inr (inl p)) rest =
-        inr (
-          p,
-          rest same (later p) (λ t. gone (OrderLaws.isIn-tail y b n t))
-              (λ m h t. in-tail x y m a b (u .1) p t (there m h (OrderLaws.isIn-tail x a m t)))
-              (λ m h t. in-tail y x m b a (v .1) (sym p) t (back m h (OrderLaws.isIn-tail y b m t))),
-        )
-    pick (inr (inr p)) rest =
-        let before : y < n = omega (arith, x-le) in
-        absurd (omega (arith, OrderLaws.ascending-later x (x ∷ a) y (omega arith, u .1) (back y before (OrderLaws.isIn-head y b))))
-
 -- Sets with the same codes have the same list.
 same-list : (f : ℕ) (a b : Choice) → ((c : ℕ) → c < perFact → inChoice a c ≡ inChoice b c) → listOf f a ≡ listOf f b
 same-list f a b same =
@@ -432,7 +381,7 @@ ahead-first f a b h e = pick (decLt (h .at) perFact)
 
     pick : Dec (h .at < perFact) → listOf f a ≼ listOf f b
     pick (yes k) =
-        inr (first-difference-first 0 0 (listOf f a) (listOf f b) (codeNumber f (h .at)) (listOf-ascending f a) (listOf-ascending f b) e
+        inr (OrderLaws.first-difference-first 0 0 (listOf f a) (listOf f b) (codeNumber f (h .at)) (listOf-ascending f a) (listOf-ascending f b) e
         (listOf-has f a (h .at) k (h .here k .0)) (absent (h .here k .1)) (agree-below f a b (h .at) (h .same))
         (agree-below f b a (h .at) (λ c k. sym (h .same c k))))
     pick (no k) =

@@ -31,7 +31,7 @@ pub record LastDelete (col : Column) (s : Choice) (j i : ℕ) : Type 0 where
   pub since : (k : ℕ) → i ≤ k → k < j → cellsWith col s .deletes (courseIn col .step k) (col .fact) ≡ false
 
 -- "one of: drop the need at j (not for a goal), drop that delete, add f at any step from the deleting one up to j-1": a repair
--- of these, by its code. Step i stands at the place before i; with no deleting step the adds are from the first step on.
+-- of these, by its code. Step i stands at place i - 1; where looking back met the start, the adds are from the first step on.
 pub data Named (col : Column) (s : Choice) (j : ℕ) : ℕ → Type 0 where
   need-at : j < col .count → Named col s j (codeOf dropNeed (courseIn col .step j))
   that-delete : (p : ℕ) → LastDelete col s j (p + 1) → Named col s j (codeOf dropDelete (courseIn col .step p))

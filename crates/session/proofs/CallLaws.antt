@@ -7,7 +7,7 @@ use Prim.Native.Nat.{ℕ, _<_}
 use native.Mathlib.Omega.{arith}
 use lib.Dec.{eqb, ltb}
 use lib.ListN.{length}
-use borrow.Author.Tests.{eq-eqb, ne-eqb, eqb-true, eqb-false, ltb-true}
+use borrow.Author.Tests.{eq-eqb, ne-eqb, eqb-true, eqb-false, ltb-true, not-false}
 use Rattle.change.proofs.EditLaws.{edited-exactly, edited-only}
 use Rattle.change.specs.Editing.{edited, cellFact, cellInside, EditedTo}
 use Rattle.change.specs.declared.Cell.{Cell}
@@ -19,13 +19,14 @@ use Rattle.table.specs.Outcomes.{refused}
 use Rattle.solve.specs.Tables.{verdictAt, Stored, Rewritten}
 use Rattle.table.proofs.FlagLaws.{and-right}
 use Rattle.table.proofs.Formation.{well-formed}
+use Rattle.table.proofs.RefusalLaws.{silent}
 use Rattle.table.specs.Refusals.{Refusal, firstOf, refuse, none, accepted, notWellFormed, notASession, editOutside}
 use Rattle.table.specs.Join.{joinVerdicts}
 use Rattle.table.specs.Sizes.{maxFacts, sessionPlaces}
 use Rattle.table.specs.Tasks.{WellFormed, formed}
 use Rattle.table.specs.declared.Reply.{Reply}
 use Rattle.table.specs.declared.Task.{Task}
-use Rattle.session.specs.Calls.{openRefusal, Opens, editRefusal, Edits, listed, Story, told-all, then, Made, made-none, made-set, made-refused}
+use Rattle.session.specs.Calls.{openRefusal, Opens, editRefusal, Edits, listed, Made, made-none, made-set, made-refused}
 use Rattle.session.specs.Sessions.{inForm}
 use Rattle.session.specs.declared.Edited.{Edited}
 
@@ -34,15 +35,6 @@ use Rattle.session.specs.declared.Edited.{Edited}
 -- A refusal at place 0.
 abbrev at-zero : ℕ → Refusal
 at-zero n = record { number = n; place = 0 }
-
--- Of three checks none fires only if each test is passed.
-clear-three : (a b c : Bool) → firstOf (refuse (not a) notWellFormed ∷ refuse (not b) notASession ∷ refuse (not c) editOutside ∷ []) .number ≡ accepted
-    → (a ≡ true) × (b ≡ true) × (c ≡ true)
-unfolding firstOf
-clear-three true true true h = (refl, refl, refl)
-clear-three true true false h = absurd (omega arith)
-clear-three true false c h = absurd (omega arith)
-clear-three false b c h = absurd (omega arith)
 
 module _ (t : Task) (s : List ℕ) where
   pub open-malformed : formed t ≡ false → openRefusal t s ≡ at-zero notWellFormed
@@ -77,8 +69,13 @@ module _ (t : Task) (s : List ℕ) where
     pub edit-accepted : editRefusal t s e .number ≡ accepted → (formed t ≡ true) × (length s ≡ sessionPlaces) × (cellInside t (e .cell) ≡ true)
     unfolding editRefusal
     edit-accepted h =
-        let p = clear-three (formed t) (eqb (length s) sessionPlaces) (cellInside t (e .cell)) h in
-        (p .0, eqb-true (length s) sessionPlaces (p .1), p .2)
+        let p = silent
+        (refuse (not (formed t)) notWellFormed ∷ refuse (not (eqb (length s) sessionPlaces)) notASession ∷
+        refuse (not (cellInside t (e .cell))) editOutside ∷ []) (omega arith) h in (
+          not-false (formed t) (p .0),
+          eqb-true (length s) sessionPlaces (not-false (eqb (length s) sessionPlaces) (p .1 .0)),
+          not-false (cellInside t (e .cell)) (p .1 .1 .0),
+        )
 
 -- ---- what each way out of a call promises
 

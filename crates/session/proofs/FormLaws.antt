@@ -16,7 +16,7 @@ use Rattle.solve.specs.Tables.{rowAt, repairsIn, Stored, Readable}
 use Rattle.table.specs.Counting.{everyBelow}
 use Rattle.table.proofs.AnswerLaws.{first-unique}
 use Rattle.table.proofs.FlagLaws.{both, and-both, or-right, by-order}
-use Rattle.table.proofs.Formation.{all-everyBelow, everyBelow-all}
+use Rattle.table.proofs.CountingLaws.{all-everyBelow, everyBelow-all}
 use Rattle.table.proofs.JoinLaws.{keepsFor-outside}
 use Rattle.table.specs.Answer.{Verdict, found, over, hopeless, Within, Keeps, First}
 use Rattle.table.specs.Repairs.{permitted, factOf}

@@ -1,7 +1,7 @@
 -- What a call of `solve` gives, by the contract above the function and by nothing else, is what specs/Solving says. Assumes nothing.
 use mathlib.Core.List.{List}
 use Prim.Native.Nat.{ℕ}
-use denote.Ref.{RefT, now}
+use denote.Ref.{now}
 use Rattle.table.proofs.ContractLaws.{call-keeps}
 use Rattle.table.specs.Contracts.{Call, AsksNothing}
 use Rattle.table.specs.Outcomes.{Outcome}

@@ -1,8 +1,8 @@
 -- "Refusal 9 occurs here only with no steps and a goal absent at the start": no list works exactly then. Assumes nothing.
-use mathlib.Core.Bool.{Bool, true, false, not, _&&_, _||_, false≢true, true≢false}
+use mathlib.Core.Bool.{Bool, true, false, not, _&&_, false≢true, true≢false}
 use mathlib.Core.List.{List, []}
 use mathlib.Core.Path.{_≡_, refl, sym, ap, _∙_, subst}
-use Prim.Native.Nat.{ℕ, zero, suc, _<_, _≤_}
+use Prim.Native.Nat.{ℕ, _<_}
 use native.Mathlib.Omega.{arith}
 use borrow.Author.Tests.{not-true, not-false}
 use Rattle.facts.specs.Sets.{has}
@@ -15,7 +15,8 @@ use Rattle.table.specs.Strips.{Right, stateAt}
 use Rattle.table.specs.Tasks.{cellsOf, courseOf, WorksFor, WellFormed}
 use Rattle.table.specs.declared.Task.{Task}
 use Rattle.table.proofs.AnswerLaws.{within-unique}
-use Rattle.table.proofs.FlagLaws.{or-neither, by-order, both}
+use Rattle.table.proofs.CountingLaws.{some-passes, none-passes}
+use Rattle.table.proofs.FlagLaws.{by-order, both}
 use Rattle.table.proofs.Formation.{well-formed}
 use Rattle.table.proofs.JoinLaws.{formed-inside, permitted-none}
 use Rattle.table.proofs.RunLaws.{right-valid, stateAt-first}
@@ -24,30 +25,6 @@ use Rattle.table.specs.Outcomes.{Outcome, refused}
 use Rattle.table.proofs.OutcomeLaws.{given-cases}
 use Rattle.solve.specs.Stuck.{Stuck}
 use Rattle.solve.proofs.FullLists.{step-works}
-
--- ---- a test that some number below n passes, or none
-
-some-passes : (p : ℕ → Bool) (n : ℕ) → someBelow p n ≡ true → (i : ℕ) × (p i ≡ true)
-unfolding someBelow
-some-passes p zero h = absurd (false≢true h)
-some-passes p (suc n) h = pick (p n) refl (some-passes p n)
-  where
-    pick : (b : Bool) → p n ≡ b → (someBelow p n ≡ true → (i : ℕ) × (p i ≡ true)) → (i : ℕ) × (p i ≡ true)
-    pick true e before = (n, e)
-    pick false e before = before (left (someBelow p n) (p n) h e)
-      where
-        left : (a b : Bool) → (a || b) ≡ true → b ≡ false → a ≡ true
-        left true b k d = refl
-        left false b k d = absurd (false≢true (sym d ∙ k))
-
-none-passes : (p : ℕ → Bool) (n : ℕ) → someBelow p n ≡ false → (i : ℕ) → i < n → p i ≡ false
-unfolding someBelow
-none-passes p zero h i l = absurd (omega arith)
-none-passes p (suc n) h i l =
-    let t = or-neither (someBelow p n) (p n) h in
-    by-order i n (none-passes p n (t .0) i) (λ (m : n ≤ i).
-    let e : n ≡ i = omega arith in
-    subst (λ (j : ℕ). p j ≡ false) e (t .1))
 
 module _ (t : Task) where
   -- a goal that is absent at the start

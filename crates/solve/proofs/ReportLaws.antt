@@ -3,7 +3,7 @@
 use mathlib.Core.Bool.{Bool, true, false, cond, _||_}
 use mathlib.Core.List.{List, _++_}
 use mathlib.Core.Path.{_≡_, refl, sym, ap, _∙_, subst}
-use Prim.Native.Nat.{ℕ, zero, suc, _+_, _-_, _*_, _<_, _≤_}
+use Prim.Native.Nat.{ℕ, _+_, _-_, _*_, _<_, _≤_}
 use native.Mathlib.Omega.{arith}
 use lib.Dec.{eqb, leb, ltb}
 use lib.ListN.{length, getD, take, drop, length-append, length-drop}
@@ -16,7 +16,8 @@ use Rattle.table.specs.Join.{isHopeless, isOver, foundList, joinLists, joinVerd
 use Rattle.table.specs.Refusals.{accepted, noListWorks, overTheLimit, roomTooShort}
 use Rattle.table.specs.Sizes.{maxFacts, maxRow, rowPlaces}
 use Rattle.table.proofs.FlagLaws.{by-order}
-use Rattle.table.proofs.JoinLaws.{someBelow-first, someBelow-next, joinLists-first, joinLists-next}
+use Rattle.table.proofs.CountingLaws.{someBelow-first, someBelow-next}
+use Rattle.table.proofs.GatherLaws.{gather-zero, gather-step, gather-part}
 use Rattle.solve.specs.Copies.{pasted}
 use Rattle.solve.specs.Reports.{tallyOf}
 use Rattle.solve.specs.Solving.{told}
@@ -120,7 +121,7 @@ module _ (s : List ℕ) (n : ℕ) where
     low = omega arith;
     hopeless = sym (someBelow-first (λ g. isHopeless (verdictAt s g)));
     over = sym (someBelow-first (λ g. isOver (verdictAt s g)));
-    total = sym (ap length (joinLists-first (verdictAt s)));
+    total = sym (ap length (gather-zero (λ g. foundList (verdictAt s g))));
     bound = omega arith;
   }
 
@@ -128,7 +129,7 @@ module _ (s : List ℕ) (n : ℕ) where
   joined-length : n ≤ maxFacts → Readable s n → (f : ℕ) → f < n
       → length (joinLists (verdictAt s) (f + 1)) ≡ length (joinLists (verdictAt s) f) + repairsIn (rowAt s f)
   joined-length low r f h =
-      ap length (joinLists-next (verdictAt s) f) ∙ length-append (joinLists (verdictAt s) f) (foundList (verdictAt s f)) ∙
+      ap length (gather-step (λ g. foundList (verdictAt s g)) f) ∙ length-append (joinLists (verdictAt s) f) (foundList (verdictAt s f)) ∙
       ap (λ (k : ℕ). length (joinLists (verdictAt s) f) + k) (listed-length s n low r f h)
 
   pub tallied-more : n ≤ maxFacts → Readable s n → (a b : Bool) (m f first count : ℕ) → f < n → first ≡ getD (rowAt s f) 0 0
@@ -167,20 +168,6 @@ append-pasted l x before n h =
     (λ j. (take-append-seam l (drop (length l) before) j ++ take n x) ++ p j) ∙
     ap (λ (k : ℕ). (l ++ take n x) ++ drop k before) (sym e)
 
-joinLists-suc : (v : ℕ → Verdict) (n : ℕ) → joinLists v (suc n) ≡ joinLists v n ++ foundList (v n)
-unfolding joinLists
-joinLists-suc v n = refl
-
--- More facts, no shorter a list.
-joinLists-longer : (v : ℕ → Verdict) (m n : ℕ) → m ≤ n → length (joinLists v m) ≤ length (joinLists v n)
-joinLists-longer v m zero h =
-    let e : m ≡ 0 = omega arith in
-    subst (λ (k : ℕ). length (joinLists v m) ≤ length (joinLists v k)) e (omega arith)
-joinLists-longer v m (suc n) h =
-    by-order m (suc n) (λ (l : m < suc n). omega (arith, joinLists-longer v m n (omega arith), ap length (joinLists-suc v n), length-append (joinLists v n) (foundList (v n)))) (λ (l : suc n ≤ m).
-    let e : m ≡ suc n = omega arith in
-    subst (λ (k : ℕ). length (joinLists v m) ≤ length (joinLists v k)) e (omega arith))
-
 -- The lists of the rows below f stand in the room from the first place on, and nothing beside.
 pub record Listed (s : List ℕ) (n : ℕ) (before after : List ℕ) (at f : ℕ) : Type 0 where
   pub low : f ≤ n
@@ -192,16 +179,16 @@ module _ (s : List ℕ) (n : ℕ) (before : List ℕ) where
   pub listed-none : Listed s n before before 0 0
   listed-none = record {
     low = omega arith;
-    place = sym (ap length (joinLists-first (verdictAt s)));
+    place = sym (ap length (gather-zero (λ g. foundList (verdictAt s g))));
     places = refl;
-    room = sym (ap (λ (l : List ℕ). l ++ drop (length l) before) (joinLists-first (verdictAt s)));
+    room = sym (ap (λ (l : List ℕ). l ++ drop (length l) before) (gather-zero (λ g. foundList (verdictAt s g))));
   }
 
   module _ (low : n ≤ maxFacts) (r : Readable s n) (fits : length (joinLists (verdictAt s) n) ≤ length before) where
     -- The next list fits.
     pub listed-fits : (after : List ℕ) (at f : ℕ) → f < n → Listed s n before after at f → at + repairsIn (rowAt s f) ≤ length after
     listed-fits after at f h t =
-        omega (arith, t .place, t .places, joined-length s n low r f h, joinLists-longer (verdictAt s) (f + 1) n (omega arith))
+        omega (arith, t .place, t .places, joined-length s n low r f h, gather-part (λ g. foundList (verdictAt s g)) (f + 1) n (omega arith))
 
     pub listed-more : (after u : List ℕ) (at f count : ℕ) → f < n → count ≡ repairsIn (rowAt s f)
         → u ≡ pasted after at (drop (rowPlaces * f + 1) s) count → Listed s n before after at f → Listed s n before u (at + count) (f + 1)
@@ -210,7 +197,7 @@ module _ (s : List ℕ) (n : ℕ) (before : List ℕ) where
         let l : List ℕ = joinLists (verdictAt s) f in
         let enough : count ≤ length x = omega (arith, d, repairs-low (rowAt s f), length-drop (rowPlaces * f + 1) s, r .places) in
         let next : l ++ take count x ≡ joinLists (verdictAt s) (f + 1) =
-        ap (λ (k : ℕ). l ++ take k x) d ∙ ap (λ (y : List ℕ). l ++ y) (sym (listed-at s n low r f h)) ∙ sym (joinLists-next (verdictAt s) f) in
+        ap (λ (k : ℕ). l ++ take k x) d ∙ ap (λ (y : List ℕ). l ++ y) (sym (listed-at s n low r f h)) ∙ sym (gather-step (λ g. foundList (verdictAt s g)) f) in
         record {
           low = omega arith;
           place = (λ j. t .place j + d j) ∙ sym (joined-length s n low r f h);

@@ -11,13 +11,11 @@ use lib.Dec.{ltb}
 use lib.ListN.{length}
 use Rattle.table.proofs.FlagLaws.{and-left}
 use Rattle.table.proofs.OrderLaws.{≼-antisymmetric, ascending-append, ascending-raise, isIn-either}
-use Rattle.table.proofs.RepairLaws.{PartOf, FactPart, right-of-part, right-of-whole}
-use Rattle.table.proofs.RunLaws.{valid-right, right-valid}
-use Rattle.table.specs.Answer.{Permitted, Works, Keeps, First, Verdict, found, over, hopeless, Within}
+use Rattle.table.specs.Answer.{Permitted, First, Verdict, found, over, hopeless, Within}
 use Rattle.table.specs.Join.{isHopeless, isOver, foundList}
 use Rattle.table.specs.Order.{Ascending, isIn}
-use Rattle.table.specs.Repairs.{permits, permitted, repaired, byKind, factOf, kindOf, actionOf}
-use Rattle.table.specs.Strips.{Cells, Course}
+use Rattle.table.specs.Repairs.{permits, permitted, byKind, factOf, kindOf, actionOf}
+use Rattle.table.specs.Strips.{Cells}
 
 -- ---- one answer
 
@@ -71,23 +69,6 @@ permitted-append c mid a b p q below above = record {
     pick : (n : ℕ) → (isIn a n ≡ true) ⊎ (isIn b n ≡ true) → permitted c n ≡ true
     pick n (inl h) = p .each n h
     pick n (inr h) = q .each n h
-
--- ---- a list that works keeps each fact right, and back
-
-pub works-keeps : (c : Cells) (r : Course) (l : List ℕ) → Works c r l → (f : ℕ) (p : FactPart f l) → Keeps c r f (p .part)
-works-keeps c r l w f p = record {
-  permitted = permitted-part c l (p .part) (w .permitted) (p .ascending) (p .inside);
-  own = p .own;
-  right = right-of-part c r f l (p .part) (p .part-of) (valid-right (repaired c (isIn l)) r (w .valid) f);
-}
-
-pub keeps-works : (c : Cells) (r : Course) (l : List ℕ) → Permitted c l
-    → ((f : ℕ) → (part : List ℕ) × PartOf f l part × Keeps c r f part) → Works c r l
-keeps-works c r l p parts = record {
-  permitted = p;
-  valid = right-valid (repaired c (isIn l)) r
-      (λ f. right-of-whole c r f l (parts f .0) (parts f .1) (parts f .2 .right));
-}
 
 -- ---- what the flags of a verdict say
 

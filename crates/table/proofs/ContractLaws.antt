@@ -1,5 +1,5 @@
 -- What a contract promises of every call, a call keeps. Assumes nothing.
-use mathlib.Core.Path.{_≡_, subst}
+use mathlib.Core.Path.{subst}
 use Rattle.table.specs.Contracts.{Call}
 
 -- Where the contract says M of what it is given and of what it leaves, each call that was given i and gave o has M i o.

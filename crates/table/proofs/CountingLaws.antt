@@ -1,6 +1,6 @@
--- Laws of specs/Counting: sums, counts, and the first place where a test holds; and that a mask's count and its lowest fact are such a
+-- Laws of specs/Counting: sums, counts, the first place where a test holds, tests that every or some number passes; and that a mask's count and its lowest fact are such a
 -- count and such a place. Assumes nothing.
-use mathlib.Core.Bool.{Bool, true, false, cond, true≢false}
+use mathlib.Core.Bool.{Bool, true, false, _&&_, _||_, cond, false≢true, true≢false}
 use mathlib.Core.Path.{_≡_, refl, sym, ap, _∙_, subst}
 use Prim.Native.Nat.{ℕ, zero, suc, _+_, _*_, _^_, _<_, _≤_}
 use native.Mathlib.Nat.{le-refl, le-of-lt, lt-of-lt-of-le, suc-mul}
@@ -13,8 +13,8 @@ use borrow.Author.Tests.{eqb-true, eqb-false, ltb-false}
 use Rattle.facts.specs.Sets.{width, has, count, lowest, sumBits}
 use Rattle.facts.proofs.Counting.{bit-has, count-sum, lowest-has, lowest-first}
 use Rattle.facts.proofs.Laws.{has-above, within-below, lt-within}
-use Rattle.table.specs.Counting.{sumBelow, countBelow, firstWhere}
-use Rattle.table.proofs.FlagLaws.{by-order}
+use Rattle.table.specs.Counting.{everyBelow, someBelow, sumBelow, countBelow, firstWhere}
+use Rattle.table.proofs.FlagLaws.{or-neither, both, and-both, by-order}
 
 -- ---- sums
 
@@ -190,3 +190,68 @@ pub firstWhere-mask : (m n : ℕ) → n ≤ width → 0 < m → m < 2 ^ n → fi
 firstWhere-mask m n h some l =
     let at = lowest-has m some (lt-of-lt-of-le l (pow-mono h)) in
     firstWhere-found (has m) n (lowest m) (within-below m n (lowest m) (lt-within m n l) at) at (lowest-first m)
+
+-- ---- tests that every number below n passes
+
+pub everyBelow-next : (p : ℕ → Bool) (i : ℕ) → everyBelow p (i + 1) ≡ (everyBelow p i && p i)
+unfolding everyBelow
+everyBelow-next p i = rw add-one
+
+-- a loop that joins its tests: at its start, after a turn, at its end
+pub everyBelow-none : (p : ℕ → Bool) → true ≡ everyBelow p 0
+unfolding everyBelow
+everyBelow-none p = refl
+
+pub everyBelow-more : (p : ℕ → Bool) (i : ℕ) {good next : Bool} → good ≡ everyBelow p i → next ≡ p i → (good && next) ≡ everyBelow p (i + 1)
+everyBelow-more p i g n = rw (g, n, everyBelow-next p i)
+
+pub everyBelow-end : (p : ℕ → Bool) (i n : ℕ) {good : Bool} → i ≤ n → n ≤ i → good ≡ everyBelow p i → good ≡ everyBelow p n
+everyBelow-end p i n {good} l m g =
+    let e : i ≡ n = omega arith in
+    subst (λ (j : ℕ). good ≡ everyBelow p j) e g
+
+pub everyBelow-all : (p : ℕ → Bool) (n : ℕ) → everyBelow p n ≡ true → (i : ℕ) → i < n → p i ≡ true
+unfolding everyBelow
+everyBelow-all p zero h i l = absurd (omega arith)
+everyBelow-all p (suc n) h i l =
+    let two = both (everyBelow p n) (p n) h in
+    by-order i n (everyBelow-all p n (two .0) i) (λ (m : n ≤ i).
+    let e : n ≡ i = omega arith in
+    subst (λ (j : ℕ). p j ≡ true) e (two .1))
+
+pub all-everyBelow : (p : ℕ → Bool) (n : ℕ) → ((i : ℕ) → i < n → p i ≡ true) → everyBelow p n ≡ true
+unfolding everyBelow
+all-everyBelow p zero h = refl
+all-everyBelow p (suc n) h = and-both _ _ (all-everyBelow p n (λ i l. h i (omega arith))) (h n (omega arith))
+
+-- ---- tests that some number below n passes, or none
+
+pub someBelow-first : (p : ℕ → Bool) → someBelow p 0 ≡ false
+unfolding someBelow
+someBelow-first p = refl
+
+pub someBelow-next : (p : ℕ → Bool) (i : ℕ) → someBelow p (i + 1) ≡ (someBelow p i || p i)
+unfolding someBelow
+someBelow-next p i = rw add-one
+
+pub some-passes : (p : ℕ → Bool) (n : ℕ) → someBelow p n ≡ true → (i : ℕ) × (p i ≡ true)
+unfolding someBelow
+some-passes p zero h = absurd (false≢true h)
+some-passes p (suc n) h = pick (p n) refl (some-passes p n)
+  where
+    pick : (b : Bool) → p n ≡ b → (someBelow p n ≡ true → (i : ℕ) × (p i ≡ true)) → (i : ℕ) × (p i ≡ true)
+    pick true e before = (n, e)
+    pick false e before = before (left (someBelow p n) (p n) h e)
+      where
+        left : (a b : Bool) → (a || b) ≡ true → b ≡ false → a ≡ true
+        left true b k d = refl
+        left false b k d = absurd (false≢true (sym d ∙ k))
+
+pub none-passes : (p : ℕ → Bool) (n : ℕ) → someBelow p n ≡ false → (i : ℕ) → i < n → p i ≡ false
+unfolding someBelow
+none-passes p zero h i l = absurd (omega arith)
+none-passes p (suc n) h i l =
+    let t = or-neither (someBelow p n) (p n) h in
+    by-order i n (none-passes p n (t .0) i) (λ (m : n ≤ i).
+    let e : n ≡ i = omega arith in
+    subst (λ (j : ℕ). p j ≡ false) e (t .1))

@@ -6,7 +6,7 @@ use borrow.Author.Tests.{eqb-true}
 use lib.Dec.{eqb}
 use lib.ListN.{length}
 use Rattle.table.proofs.FlagLaws.{both, and-both}
-use Rattle.table.proofs.Formation.{everyBelow-all, all-everyBelow}
+use Rattle.table.proofs.CountingLaws.{everyBelow-all, all-everyBelow}
 use Rattle.table.specs.Counting.{everyBelow}
 use Rattle.table.specs.Deciding.{isRight, isShaped}
 use Rattle.table.specs.Sizes.{maxActions}

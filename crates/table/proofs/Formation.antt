@@ -1,9 +1,8 @@
 -- When a task is well formed: the test of specs/Tasks and its record of named parts say the same, and what the proofs read off the record.
 -- Assumes nothing.
 use mathlib.Core.Bool.{Bool, true, false, not, _&&_, _||_, cond}
-use mathlib.Core.Path.{_≡_, refl, sym, _∙_, subst}
-use Prim.Native.Nat.{ℕ, zero, suc, _+_, _<_, _≤_}
-use native.Mathlib.Numerals.{add-one}
+use mathlib.Core.Path.{_≡_, sym, _∙_}
+use Prim.Native.Nat.{ℕ, _<_, _≤_}
 use native.Mathlib.Omega.{arith}
 use lib.Dec.{eqb, leb, ltb}
 use lib.ListN.{getD, List·getD-eq-default}
@@ -16,40 +15,8 @@ use Rattle.table.specs.Repairs.{byKind, dropDelete, addEffect, dropNeed}
 use Rattle.table.specs.Tasks.{maskOf, sizesFormed, maskFormed, actionFormed, stepFormed, formed, Shaped, WellFormed}
 use Rattle.table.specs.declared.Table.{Table}
 use Rattle.table.specs.declared.Task.{Task}
+use Rattle.table.proofs.CountingLaws.{everyBelow-all, all-everyBelow}
 use Rattle.table.proofs.FlagLaws.{both, and-both, or-right, or-other, by-order}
-
--- ---- what holds of every number below n
-
-pub everyBelow-next : (p : ℕ → Bool) (i : ℕ) → everyBelow p (i + 1) ≡ (everyBelow p i && p i)
-unfolding everyBelow
-everyBelow-next p i = rw add-one
-
--- a loop that joins its tests: at its start, after a turn, at its end
-pub everyBelow-none : (p : ℕ → Bool) → true ≡ everyBelow p 0
-unfolding everyBelow
-everyBelow-none p = refl
-
-pub everyBelow-more : (p : ℕ → Bool) (i : ℕ) {good next : Bool} → good ≡ everyBelow p i → next ≡ p i → (good && next) ≡ everyBelow p (i + 1)
-everyBelow-more p i g n = rw (g, n, everyBelow-next p i)
-
-pub everyBelow-end : (p : ℕ → Bool) (i n : ℕ) {good : Bool} → i ≤ n → n ≤ i → good ≡ everyBelow p i → good ≡ everyBelow p n
-everyBelow-end p i n {good} l m g =
-    let e : i ≡ n = omega arith in
-    subst (λ (j : ℕ). good ≡ everyBelow p j) e g
-
-pub everyBelow-all : (p : ℕ → Bool) (n : ℕ) → everyBelow p n ≡ true → (i : ℕ) → i < n → p i ≡ true
-unfolding everyBelow
-everyBelow-all p zero h i l = absurd (omega arith)
-everyBelow-all p (suc n) h i l =
-    let two = both (everyBelow p n) (p n) h in
-    by-order i n (everyBelow-all p n (two .0) i) (λ (m : n ≤ i).
-    let e : n ≡ i = omega arith in
-    subst (λ (j : ℕ). p j ≡ true) e (two .1))
-
-pub all-everyBelow : (p : ℕ → Bool) (n : ℕ) → ((i : ℕ) → i < n → p i ≡ true) → everyBelow p n ≡ true
-unfolding everyBelow
-all-everyBelow p zero h = refl
-all-everyBelow p (suc n) h = and-both _ _ (all-everyBelow p n (λ i l. h i (omega arith))) (h n (omega arith))
 
 -- ---- one law for the three masks of an action
 

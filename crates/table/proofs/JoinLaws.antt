@@ -5,7 +5,6 @@ use mathlib.Core.Logic.{_⊎_, inl, inr}
 use mathlib.Core.Path.{_≡_, refl, sym, ap, _∙_, subst}
 use Prim.Native.Nat.{ℕ, zero, suc, _+_, _*_, _<_, _≤_}
 use native.Mathlib.Decide.{decLt}
-use native.Mathlib.Numerals.{add-one}
 use native.Mathlib.Omega.{arith}
 use borrow.Author.Tests.{ltb-true, ltb-false}
 use lib.Dec.{ltb}
@@ -17,6 +16,7 @@ use Rattle.table.proofs.OrderLaws.{isIn-none, isIn-left, isIn-right, is
 use Rattle.table.proofs.RepairLaws.{right-of-part, right-of-whole}
 use Rattle.table.proofs.RunLaws.{valid-right, right-valid}
 use Rattle.table.specs.Answer.{Permitted, Works, Keeps, First, Verdict, found, over, hopeless, Within}
+use Rattle.table.specs.Lists.{gather}
 use Rattle.table.specs.Join.{KeepsBelow, Inside, isHopeless, isOver, foundList, joinLists, joinVerdicts}
 use Rattle.table.specs.Order.{isIn, _≼_}
 use Rattle.table.specs.Repairs.{dropNeed, repaired, factOf}
@@ -24,24 +24,6 @@ use Rattle.table.specs.Sizes.{perFact}
 use Rattle.table.specs.Strips.{Cells, Course, Right}
 use Rattle.table.specs.Tasks.{cellsOf, courseOf, WorksFor, KeepsFor, WellFormed}
 use Rattle.table.specs.declared.Task.{Task}
-
--- ---- the joined flags and lists, as a loop over the facts has them
-
-pub someBelow-first : (p : ℕ → Bool) → someBelow p 0 ≡ false
-unfolding someBelow
-someBelow-first p = refl
-
-pub someBelow-next : (p : ℕ → Bool) (i : ℕ) → someBelow p (i + 1) ≡ (someBelow p i || p i)
-unfolding someBelow
-someBelow-next p i = rw add-one
-
-pub joinLists-first : (v : ℕ → Verdict) → joinLists v 0 ≡ []
-unfolding joinLists
-joinLists-first v = refl
-
-pub joinLists-next : (v : ℕ → Verdict) (i : ℕ) → joinLists v (i + 1) ≡ joinLists v i ++ foundList (v i)
-unfolding joinLists
-joinLists-next v i = rw add-one
 
 module _ (c : Cells) (r : Course) where
   -- ---- one fact more
@@ -222,7 +204,7 @@ module _ (c : Cells) (r : Course) where
         → First (KeepsBelow c r n) (joinLists v n)
 
   joined-none : (v : ℕ → Verdict) (k : ℕ) → Joined v k 0
-  unfolding someBelow joinLists
+  unfolding someBelow gather
   joined-none v k = record {
     none = λ e. absurd (false≢true e);
     some = λ e. ([], keepsBelow-none);
@@ -231,7 +213,7 @@ module _ (c : Cells) (r : Course) where
   }
 
   joined-more : (v : ℕ → Verdict) (k n : ℕ) → Within (Keeps c r n) k (v n) → Joined v k n → Joined v k (suc n)
-  unfolding someBelow joinLists
+  unfolding someBelow gather
   joined-more v k n w before = record {
     none = λ e. join-hopeless n (no-list (or-cases (someBelow (λ f. isHopeless (v f)) n) (isHopeless (v n)) e));
     some = λ e.

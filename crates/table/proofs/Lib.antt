@@ -1,6 +1,8 @@
 -- What other crates cite of `table`: the laws of flags, counts and gathered lists, of the order of lists, of runs, repairs
 -- and the answer, of tasks, of repair numbers, and of what is given into lent room. And the worked examples, for a reader.
 pub mod FlagLaws
+pub mod RefusalLaws
+pub mod SettingLaws
 pub mod OutcomeLaws
 pub mod CountingLaws
 pub mod GatherLaws

@@ -165,18 +165,6 @@ pub ≼-antisymmetric : (a b : List ℕ) → a ≼ b → b ≼ a → a ≡ b
 ≼-antisymmetric a b (inr p) (inl q) = absurd (omega (arith, notAfter-length a b p))
 ≼-antisymmetric a b (inr p) (inr q) = notAfter-antisymmetric a b p q
 
-pub ≼-total : (a b : List ℕ) → (a ≼ b) ⊎ (b ≼ a)
-≼-total a b = pick (compared (length a) (length b))
-  where
-    either : NotAfter a b ⊎ NotAfter b a → (a ≼ b) ⊎ (b ≼ a)
-    either (inl p) = inl (inr p)
-    either (inr p) = inr (inr p)
-
-    pick : (length a < length b) ⊎ ((length a ≡ length b) ⊎ (length b < length a)) → (a ≼ b) ⊎ (b ≼ a)
-    pick (inl p) = inl (inl p)
-    pick (inr (inl e)) = either (notAfter-total a b e)
-    pick (inr (inr p)) = inr (inl p)
-
 pub ≼-append : (a c b d : List ℕ) → a ≼ c → b ≼ d → (a ++ b) ≼ (c ++ d)
 ≼-append a c b d (inl p) q = inl (omega (arith, length-append a b, length-append c d, ≼-length b d q))
 ≼-append a c b d (inr p) (inl q) = inl (omega (arith, length-append a b, length-append c d, notAfter-length a c p))
@@ -292,3 +280,48 @@ pub split-either : (low : ℕ) (l : List ℕ) (m : ℕ) (s : Split low l m) (n :
     → isIn l n ≡ true → (isIn (s .left) n ≡ true) ⊎ (isIn (s .right) n ≡ true)
 split-either low l m s n h =
     isIn-either (s .left) (s .right) n (subst (λ (w : List ℕ). isIn w n ≡ true) (sym (s .whole)) h)
+
+-- Of two ascending lists of equal length, the one that has the first number in which they differ comes first.
+pub first-difference-first : (la lb : ℕ) (a b : List ℕ) (n : ℕ) → AscendingFrom la a → AscendingFrom lb b → length a ≡ length b
+    → isIn a n ≡ true → (isIn b n ≡ true → ⊥) → ((m : ℕ) → m < n → isIn a m ≡ true → isIn b m ≡ true)
+    → ((m : ℕ) → m < n → isIn b m ≡ true → isIn a m ≡ true) → NotAfter a b
+first-difference-first la lb [] b n u v e here gone there back = absurd (isIn-none n here)
+first-difference-first la lb (x ∷ a) [] n u v e here gone there back = absurd (omega arith)
+first-difference-first la lb (x ∷ a) (y ∷ b) n u v e here gone there back =
+    pick (compared x y) (first-difference-first (suc x) (suc y) a b n (u .1) (v .1))
+  where
+    same : length a ≡ length b
+    same = omega arith
+
+    x-le : x ≤ n
+    x-le = ascending-later x (x ∷ a) n (omega arith, u .1) here
+
+    in-tail : (z w m : ℕ) (l k : List ℕ) → AscendingFrom (suc z) l → z ≡ w → isIn l m ≡ true → isIn (w ∷ k) m ≡ true → isIn k m ≡ true
+    in-tail z w m l k asc zw t h = cases (isIn-cases w k m h)
+      where
+        cases : (m ≡ w) ⊎ (isIn k m ≡ true) → isIn k m ≡ true
+        cases (inl q) = absurd (omega (arith, ascending-later (suc z) l m asc t))
+        cases (inr q) = q
+
+    later : x ≡ y → isIn a n ≡ true
+    later q = cases (isIn-cases x a n here)
+      where
+        cases : (n ≡ x) ⊎ (isIn a n ≡ true) → isIn a n ≡ true
+        cases (inl p) = absurd (gone (subst (λ k. isIn (k ∷ b) n ≡ true) q (subst (λ k. isIn (x ∷ b) k ≡ true) (sym p) (isIn-head x b))))
+        cases (inr p) = p
+
+    pick : (x < y) ⊎ ((x ≡ y) ⊎ (y < x))
+        → (length a ≡ length b → isIn a n ≡ true → (isIn b n ≡ true → ⊥) → ((m : ℕ) → m < n → isIn a m ≡ true → isIn b m ≡ true)
+        → ((m : ℕ) → m < n → isIn b m ≡ true → isIn a m ≡ true) → NotAfter a b)
+        → NotAfter (x ∷ a) (y ∷ b)
+    pick (inl p) rest = inl (p, same)
+    pick (inr (inl p)) rest =
+        inr (
+          p,
+          rest same (later p) (λ t. gone (isIn-tail y b n t))
+              (λ m h t. in-tail x y m a b (u .1) p t (there m h (isIn-tail x a m t)))
+              (λ m h t. in-tail y x m b a (v .1) (sym p) t (back m h (isIn-tail y b m t))),
+        )
+    pick (inr (inr p)) rest =
+        let before : y < n = omega (arith, x-le) in
+        absurd (omega (arith, ascending-later x (x ∷ a) y (omega arith, u .1) (back y before (isIn-head y b))))

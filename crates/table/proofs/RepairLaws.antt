@@ -1,18 +1,16 @@
 -- Laws of repairs: a fact is touched only by the repairs whose numbers name it, and more repairs keep a fact right where fewer do.
 use mathlib.Core.Bool.{Bool, true, false, not, _&&_, _||_}
 use mathlib.Core.List.{List}
-use mathlib.Core.Logic.{_⊎_, inl, inr}
 use mathlib.Core.Path.{_≡_, refl, sym}
-use Prim.Native.Nat.{ℕ, suc, _*_, _<_, _≤_}
+use Prim.Native.Nat.{ℕ, _<_}
 use native.Mathlib.Omega.{arith}
 use borrow.Author.Tests.{ltb-true}
 use lib.Dec.{ltb}
 use Rattle.table.proofs.FlagLaws.{not-shrinks, or-grows, and-grows, same-flag}
-use Rattle.table.proofs.OrderLaws.{Split, split-at, split-left-in, split-right-in, split-either, ascending-weaken}
 use Rattle.table.proofs.RunLaws.{SameAt, Eases, sameCourse-refl, right-same, right-eases}
-use Rattle.table.specs.Order.{Ascending, isIn}
+use Rattle.table.specs.Order.{isIn}
 use Rattle.table.specs.Repairs.{dropDelete, addEffect, dropNeed, numberOf, factOf, chosen, repaired}
-use Rattle.table.specs.Sizes.{maxActions, kinds, perFact}
+use Rattle.table.specs.Sizes.{maxActions, kinds}
 use Rattle.table.specs.Strips.{Cells, Course, Right}
 
 -- ---- sets of repairs that agree on one fact's numbers
@@ -92,46 +90,3 @@ pub right-of-whole : (c : Cells) (r : Course) (f : ℕ) (l part : List ℕ) → 
     → Right (repaired c (isIn part)) r f → Right (repaired c (isIn l)) r f
 right-of-whole c r f l part p =
     right-agree c r f (isIn part) (isIn l) (λ n e. sym (part-agree f l part p n e))
-
--- Every ascending list has its part of each fact, which is an ascending list of repairs of that fact alone.
-pub record FactPart (f : ℕ) (l : List ℕ) : Type 0 where
-  pub part : List ℕ
-  pub ascending : Ascending part
-  pub own : (n : ℕ) → isIn part n ≡ true → factOf n ≡ f
-  pub inside : (n : ℕ) → isIn part n ≡ true → isIn l n ≡ true
-  pub part-of : PartOf f l part
-
-pub fact-part : (f : ℕ) (l : List ℕ) → Ascending l → FactPart f l
-fact-part f l u = record {
-  part = middle .left;
-  ascending = ascending-weaken 0 (perFact * f) (middle .left) (omega arith) (middle .left-ascending);
-  own = λ n h.
-      let low : perFact * f ≤ n = upper .above n (to-right n h) in
-      let high : n < perFact * suc f = middle .below n h in
-      omega arith;
-  inside = λ n h. split-right-in 0 l (perFact * f) upper n (to-right n h);
-  part-of = record {
-    within = λ n e h. split-right-in 0 l (perFact * f) upper n (to-right n h);
-    all = λ n e h. from-middle n e (split-either (perFact * f) (upper .right) (perFact * suc f) middle n
-        (from-upper n e (split-either 0 l (perFact * f) upper n h)));
-  };
-}
-  where
-    upper : Split 0 l (perFact * f)
-    upper = split-at 0 l u (perFact * f)
-
-    middle : Split (perFact * f) (upper .right) (perFact * suc f)
-    middle = split-at (perFact * f) (upper .right) (upper .right-ascending) (perFact * suc f)
-
-    to-right : (n : ℕ) → isIn (middle .left) n ≡ true → isIn (upper .right) n ≡ true
-    to-right n h = split-left-in (perFact * f) (upper .right) (perFact * suc f) middle n h
-
-    from-upper : (n : ℕ) → factOf n ≡ f → (isIn (upper .left) n ≡ true) ⊎ (isIn (upper .right) n ≡ true)
-        → isIn (upper .right) n ≡ true
-    from-upper n e (inl h) = absurd (omega (arith, upper .below n h))
-    from-upper n e (inr h) = h
-
-    from-middle : (n : ℕ) → factOf n ≡ f → (isIn (middle .left) n ≡ true) ⊎ (isIn (middle .right) n ≡ true)
-        → isIn (middle .left) n ≡ true
-    from-middle n e (inl h) = h
-    from-middle n e (inr h) = absurd (omega (arith, middle .above n h))

@@ -2,13 +2,13 @@
 -- number names. Assumes nothing.
 use mathlib.Core.Bool.{Bool, true, false, not, _&&_}
 use mathlib.Core.Path.{_≡_, refl, _∙_}
-use Prim.Native.Nat.{ℕ, _≤_, _<_}
+use Prim.Native.Nat.{ℕ, zero, suc, _≤_, _<_}
 use native.Mathlib.Omega.{arith}
 use lib.Dec.{ltb}
 use borrow.Author.Tests.{ltb-true, lt-ltb, le-ltb}
 use Rattle.table.specs.Sizes.{maxFacts, maxActions, kinds, lastRepair, unused}
 use Rattle.table.specs.Strips.{Cells}
-use Rattle.table.specs.Repairs.{byKind, numberOf, factOf, kindOf, actionOf, numbered, permits, permitted}
+use Rattle.table.specs.Repairs.{dropDelete, addEffect, dropNeed, byKind, numberOf, factOf, kindOf, actionOf, numbered, permits, permitted}
 use Rattle.table.proofs.FlagLaws.{both, and-both}
 
 -- ---- the number and back
@@ -92,3 +92,12 @@ permitted-unused c hc = permitted-outside c unused hc (omega arith)
 pub permitted-number : (c : Cells) (f k a : ℕ) → k < kinds → a < maxActions → permitted c (numberOf f k a) ≡ permits c f k a
 unfolding permitted
 permitted-number c f k a hk ha = rw (fact-back f k a hk ha, kind-back f k a hk ha, action-back f k a hk ha)
+
+-- ---- the three kinds alike
+
+-- what holds of each of the three kinds holds of every kind
+pub kind-cases : (P : ℕ → Type 0) → P dropDelete → P addEffect → P dropNeed → (k : ℕ) → k < kinds → P k
+kind-cases P d a n zero h = d
+kind-cases P d a n (suc zero) h = a
+kind-cases P d a n (suc (suc zero)) h = n
+kind-cases P d a n (suc (suc (suc k))) h = absurd (omega arith)

@@ -1,18 +1,17 @@
 -- The worked examples hold: each list is computed to work, step by step and fact by fact, or not to. Assumes nothing.
-use mathlib.Core.Bool.{Bool, true, not, _&&_, _||_, false≢true}
+use mathlib.Core.Bool.{Bool, true, _&&_, false≢true}
 use mathlib.Core.List.{List, [], _∷_}
 use mathlib.Core.Logic.{_⊎_, inl, inr}
 use mathlib.Core.Path.{_≡_, refl, ap, _∙_}
 use Prim.Native.Nat.{ℕ, _<_}
 use native.Mathlib.Decide.{decLt}
 use native.Mathlib.Omega.{arith}
-use borrow.Author.Tests.{eqb-true}
-use lib.Dec.{eqb}
 use lib.ListN.{length}
 use Rattle.facts.specs.Sets.{has, within}
 use Rattle.table.proofs.DecidingLaws.{is-right, is-shaped}
 use Rattle.table.proofs.FlagLaws.{both}
-use Rattle.table.proofs.Formation.{everyBelow-all, formed-well}
+use Rattle.table.proofs.CountingLaws.{everyBelow-all}
+use Rattle.table.proofs.Formation.{formed-well}
 use Rattle.table.proofs.JoinLaws.{formed-inside, right-outside}
 use Rattle.table.proofs.OrderLaws.{compared, isIn-none, isIn-cases, ≼-length}
 use Rattle.table.proofs.RunLaws.{right-valid}
@@ -21,9 +20,8 @@ use Rattle.table.specs.Counting.{everyBelow}
 use Rattle.table.specs.Deciding.{isRight, isShaped}
 use Rattle.table.specs.Order.{Ascending, isIn, _≼_}
 use Rattle.table.specs.Repairs.{permits, permitted, chosen, repaired}
-use Rattle.table.specs.Sizes.{maxActions, maxSteps}
-use Rattle.table.specs.Strips.{Cells, Course, stateAt, Right}
-use Rattle.table.specs.Tasks.{cellsOf, courseOf, formed, sizesFormed, maskFormed, actionFormed, stepFormed, Shaped, WellFormed, WorksFor}
+use Rattle.table.specs.Strips.{Cells, stateAt, Right}
+use Rattle.table.specs.Tasks.{cellsOf, courseOf, formed, sizesFormed, maskFormed, actionFormed, stepFormed, WellFormed, WorksFor}
 use Rattle.table.specs.Worked.{twoDeletes, Worked}
 use Rattle.table.specs.declared.Task.{Task}
 

@@ -1,11 +1,12 @@
 -- The answer out of single facts (003: "each fact can be diagnosed by itself"; 01, "The session table", listing).
 use mathlib.Core.Bool.{Bool, true, false, _||_, cond}
-use mathlib.Core.List.{List, [], _++_}
+use mathlib.Core.List.{List, []}
 use mathlib.Core.Path.{_≡_}
-use Prim.Native.Nat.{ℕ, zero, suc, _<_, _≤_}
+use Prim.Native.Nat.{ℕ, _<_, _≤_}
 use lib.Dec.{ltb}
 use lib.ListN.{length}
 use Rattle.table.specs.Counting.{someBelow}
+use Rattle.table.specs.Lists.{gather}
 use Rattle.table.specs.Answer.{Permitted, Verdict, found, over, hopeless}
 use Rattle.table.specs.Order.{isIn}
 use Rattle.table.specs.Repairs.{repaired, factOf}
@@ -39,9 +40,8 @@ foundList over = []
 foundList hopeless = []
 
 -- The lists of the facts below n, in order of fact.
-unfoldable pub joinLists : (ℕ → Verdict) → ℕ → List ℕ
-joinLists v zero = []
-joinLists v (suc n) = joinLists v n ++ foundList (v n)
+abbrev pub joinLists : (ℕ → Verdict) → ℕ → List ℕ
+joinLists v n = gather (λ f. foundList (v f)) n
 
 -- Hopeless if a fact is; else over the limit if a fact is or the lengths sum to more; else the joined list.
 unfoldable pub joinVerdicts : (ℕ → Verdict) → ℕ → ℕ → Verdict

@@ -1,13 +1,13 @@
 -- A good record: none of the faults of the record at a place, by name, and back. Assumes nothing.
-use mathlib.Core.Bool.{Bool, true, false, cond, _&&_}
-use mathlib.Core.List.{List, [], _∷_}
-use mathlib.Core.Path.{_≡_, refl}
+use mathlib.Core.Bool.{true, false, _&&_}
+use mathlib.Core.List.{List}
+use mathlib.Core.Path.{_≡_}
 use Prim.Native.Nat.{ℕ, _+_, _<_, _≤_}
 use native.Mathlib.Omega.{arith}
 use lib.Dec.{eqb, leb}
 use lib.ListN.{length}
 use borrow.Author.Tests.{leb-false, ltb-false, not-false, lt-leb, le-ltb}
-use Rattle.table.specs.Refusals.{Check, Refusal, firstOf}
+use Rattle.table.proofs.RefusalLaws.{silent, accepts}
 use Rattle.table.specs.Sizes.{maxSteps}
 use Rattle.taskfile.specs.Format.{sizesKind, stepKind, isKind, bodyLength}
 use Rattle.taskfile.specs.Reading.{Seen, kindAt, byteAt, bodyAt, misplaced, sizesWrong, outside, disordered, faultsAt, faultAt}
@@ -21,32 +21,6 @@ pub record Clear (s : List ℕ) (at : ℕ) (seen : Seen) : Type 0 where
   pub inside : outside (seen .task .table) (kindAt s at) (byteAt s at 0) (byteAt s at 1) ≡ false
   pub ordered : disordered seen (kindAt s at) (bodyAt s at) ≡ false
   pub room : (eqb (kindAt s at) stepKind && leb maxSteps (seen .task .run .count)) ≡ false
-
--- No check of a list fires; each has a number above 0.
-abbrev Silent : List Check → Type 0
-Silent [] = Unit {0}
-Silent (c ∷ cs) = (c .fires ≡ false) × Silent cs
-
-abbrev Numbered : List Check → Type 0
-Numbered [] = Unit {0}
-Numbered (c ∷ cs) = (0 < c .number) × Numbered cs
-
-passed : (b : Bool) (n p : ℕ) (rest : Refusal) → 0 < n → cond {A = Refusal} b (record { number = n; place = p }) rest .number ≡ 0
-    → (b ≡ false) × (rest .number ≡ 0)
-passed true n p rest pos e = absurd (omega arith)
-passed false n p rest pos e = (refl, e)
-
-silent : (cs : List Check) → Numbered cs → firstOf cs .number ≡ 0 → Silent cs
-unfolding firstOf
-silent [] pos e = tt
-silent (c ∷ cs) pos e =
-    let first = passed (c .fires) (c .number) (c .place) (firstOf cs) (pos .0) e in
-    (first .0, silent cs (pos .1) (first .1))
-
-accepts : (cs : List Check) → Silent cs → firstOf cs .number ≡ 0
-unfolding firstOf
-accepts [] q = refl
-accepts (c ∷ cs) q = rw (q .0) (accepts cs (q .1))
 
 pub clear : (s : List ℕ) (at : ℕ) (seen : Seen) → faultAt s at seen .number ≡ 0 → Clear s at seen
 unfolding faultsAt

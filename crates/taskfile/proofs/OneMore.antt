@@ -11,6 +11,7 @@ use borrow.Author.Tests.{eqb-true, eqb-false, ne-eqb}
 use Rattle.facts.specs.Sets.{width, has, joined, only}
 use Rattle.facts.proofs.Laws.{has-joined, has-only}
 use Rattle.table.proofs.FlagLaws.{both}
+use Rattle.table.proofs.SettingLaws.{getD-setCell}
 use Rattle.table.specs.Setting.{setCell}
 use Rattle.table.specs.Repairs.{byKind, dropDelete, addEffect}
 use Rattle.table.specs.Sizes.{maxActions, maxSteps}
@@ -62,9 +63,12 @@ module _ (t : Task) (k x y z : ℕ) where
       cell : (kind : ℕ) (l : List ℕ) → needKind ≤ kind → length l ≡ maxActions
           → getD (cond (eqb k kind) (setCell l x y true) l) a 0 ≡
           cond (eqb k kind && eqb a x) (joined (getD l a 0) (only y)) (getD l a 0)
-      cell kind l low e =
-          get-set (eqb k kind) l x a (λ (i : ℕ). joined (getD l i 0) (only y))
-          (λ d. let same = eqb-true k kind d in let less = h (omega arith) in omega arith)
+      cell kind l low e = pick (eqb k kind) refl
+        where
+          pick : (d : Bool) → eqb k kind ≡ d
+              → getD (cond d (setCell l x y true) l) a 0 ≡ cond (d && eqb a x) (joined (getD l a 0) (only y)) (getD l a 0)
+          pick true d = let same = eqb-true k kind d in let less = h (omega arith) in getD-setCell l x y true a (omega arith)
+          pick false d = refl
 
       at : (b c : Bool) →
           cond b (getD (cond (eqb k deleteKind) (setCell (t .table .deletes) x y true) (t .table .deletes)) a 0)

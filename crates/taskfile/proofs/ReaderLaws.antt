@@ -1,37 +1,17 @@
--- Laws of an ordered list of checks, and what the loop of the reader keeps. Assumes nothing.
-use mathlib.Core.Bool.{Bool, true, false, cond, _&&_}
+-- What the loop of the reader keeps. Assumes nothing.
+use mathlib.Core.Bool.{Bool, _&&_}
 use mathlib.Core.List.{List, [], _∷_}
 use mathlib.Core.Path.{_≡_, refl}
 use Prim.Native.Nat.{ℕ, _<_}
 use borrow.Author.Tests.{eq-eqb, leb-false}
-use native.Mathlib.Omega.{arith}
 use lib.Dec.{eqb, leb}
-use lib.ListN.{drop}
-use Rattle.table.specs.Refusals.{refuseAt, Check, Refusal, firstOf, sizeOutside, numberOutside, notAscending, tooManySteps}
+use Rattle.table.proofs.RefusalLaws.{first-placed}
+use Rattle.table.specs.Refusals.{refuseAt, Check, firstOf, sizeOutside, numberOutside, notAscending, tooManySteps}
 use Rattle.table.specs.Sizes.{maxSteps}
 use Rattle.taskfile.specs.Format.{sizesKind, stepKind}
 use Rattle.taskfile.specs.Reading.{Seen, kindAt, byteAt, bodyAt, sizesWrong, outside, disordered, faultsAt, faultAt}
 use Rattle.taskfile.specs.Records.{bodyFaults}
 use Rattle.taskfile.proofs.Clear.{Clear}
-
--- The first n checks do not fire.
-abbrev pub Past : List Check → ℕ → Type 0
-Past cs n = firstOf cs ≡ firstOf (drop n cs)
-
--- All checks of the list are at one place.
-abbrev AllAt : ℕ → List Check → Type 0
-AllAt p [] = Unit {0}
-AllAt p (c ∷ cs) = (c .place ≡ p) × AllAt p cs
-
-placed : (b : Bool) (n q p : ℕ) (rest : Refusal) → q ≡ p → (0 < rest .number → rest .place ≡ p)
-    → 0 < cond {A = Refusal} b (record { number = n; place = q }) rest .number → cond {A = Refusal} b (record { number = n; place = q }) rest .place ≡ p
-placed true n q p rest e more h = e
-placed false n q p rest e more h = more h
-
-first-placed : (p : ℕ) (cs : List Check) → AllAt p cs → 0 < firstOf cs .number → firstOf cs .place ≡ p
-unfolding firstOf
-first-placed p [] a h = absurd (omega arith)
-first-placed p (c ∷ cs) a h = placed (c .fires) (c .number) (c .place) p (firstOf cs) (a .0) (first-placed p cs (a .1)) h
 
 -- A fault is at its record's start.
 pub fault-place : (s : List ℕ) (at : ℕ) (seen : Seen) → 0 < faultAt s at seen .number → faultAt s at seen .place ≡ at

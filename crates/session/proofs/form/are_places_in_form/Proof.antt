@@ -5,7 +5,7 @@ use borrow.Author.Needs.{needs}
 use native.Mathlib.Omega.{arith}
 use Rattle.solve.specs.Tables.{rowAt}
 use Rattle.table.specs.Counting.{everyBelow}
-use Rattle.table.proofs.Formation.{everyBelow-none, everyBelow-more, everyBelow-end}
+use Rattle.table.proofs.CountingLaws.{everyBelow-none, everyBelow-more, everyBelow-end}
 use Rattle.table.specs.Sizes.{maxRow}
 use Rattle.table.specs.Tasks.{cellsOf}
 use Rattle.session.specs.Sessions.{placeInForm}

@@ -6,7 +6,7 @@ use native.Mathlib.Omega.{arith}
 use Rattle.table.specs.Counting.{everyBelow}
 use Rattle.table.specs.Sizes.{maxSteps}
 use Rattle.table.specs.Tasks.{stepFormed}
-use Rattle.table.proofs.Formation.{everyBelow-none, everyBelow-more, everyBelow-end}
+use Rattle.table.proofs.CountingLaws.{everyBelow-none, everyBelow-more, everyBelow-end}
 use Rattle.table.proofs.formed.are_steps_formed.Statement.{statement}
 use Rattle.table.proofs.formed.are_steps_formed.Tie as tie
 

@@ -11,7 +11,7 @@ use Rattle.table.specs.Refusals.{Check, Refusal, firstOf}
 use Rattle.taskfile.specs.Format.{isKind, bodyLength}
 use Rattle.taskfile.specs.Reading.{kindAt, nextAt, misplaced, faultsAt}
 use Rattle.taskfile.specs.Records.{seenOf, bodyFaults}
-use Rattle.taskfile.proofs.ReaderLaws.{Past}
+use Rattle.table.proofs.RefusalLaws.{Past}
 use Rattle.taskfile.proofs.fault.fault_at.Statement.{statement}
 use Rattle.taskfile.proofs.fault.fault_at.Tie as tie
 

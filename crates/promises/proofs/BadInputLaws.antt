@@ -1,6 +1,6 @@
 -- What demand 1 needs of the calls' contracts: each bad input's refusal, and that a refusal leaves what was lent as it was. Assumes nothing.
 use mathlib.Core.Bool.{Bool, true, false, cond, not}
-use mathlib.Core.List.{List, [], _∷_}
+use mathlib.Core.List.{List}
 use mathlib.Core.Path.{_≡_, refl, ap, _∙_, subst}
 use Prim.Native.Nat.{ℕ, _<_, _≤_}
 use native.Mathlib.Omega.{arith}
@@ -21,7 +21,8 @@ use Rattle.table.proofs.FlagLaws.{by-order}
 use Rattle.table.proofs.OutcomeLaws.{given-keeps}
 use Rattle.table.specs.Answer.{Verdict, found, over, hopeless, Permitted}
 use Rattle.table.specs.Join.{joinVerdicts}
-use Rattle.table.specs.Refusals.{Check, Refusal, firstOf, accepted, bytesAfterEnd, notWellFormed, notASession, listNotPermitted}
+use Rattle.table.proofs.RefusalLaws.{Bounded, firstOf-bounded}
+use Rattle.table.specs.Refusals.{accepted, bytesAfterEnd, notWellFormed, notASession, listNotPermitted}
 use Rattle.table.specs.Tasks.{cellsOf, formed, WellFormed}
 use Rattle.table.specs.declared.Task.{Task}
 use Rattle.taskfile.proofs.Files.{accepted-exactly, accepted-read}
@@ -31,21 +32,6 @@ use Rattle.taskfile.specs.declared.TaskRead.{TaskRead}
 use Rattle.taskwriter.specs.Writing.{written}
 
 -- ---- files
-
--- Every check's number is at most n.
-abbrev pub Bounded : ℕ → List Check → Type 0
-Bounded n [] = Unit {0}
-Bounded n (c ∷ cs) = (c .number ≤ n) × Bounded n cs
-
-pub firstOf-bounded : (n : ℕ) (cs : List Check) → Bounded n cs → firstOf cs .number ≤ n
-unfolding firstOf
-firstOf-bounded n [] b = omega arith
-firstOf-bounded n (c ∷ cs) b = pick (c .fires) (firstOf-bounded n cs (b .1))
-  where
-    pick : (f : Bool) → firstOf cs .number ≤ n
-        → cond {A = Refusal} f (record { number = c .number; place = c .place }) (firstOf cs) .number ≤ n
-    pick true h = b .0
-    pick false h = h
 
 faults-bounded : (s : List ℕ) (at : ℕ) (seen : Seen) → Bounded bytesAfterEnd (faultsAt s at seen)
 unfolding faultsAt
