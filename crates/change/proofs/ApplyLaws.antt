@@ -1,6 +1,6 @@
 -- Laws of applying a list: numbers made one after another are made at once; the answer is the only one; a well-formed task stays well
 -- formed, and a list that works makes the run valid. Assumes nothing.
-use mathlib.Core.Bool.{Bool, true, false, not, _&&_, _||_, cond, or-true, or-false, and-true, and-false, and-or-distrib-left}
+use mathlib.Core.Bool.{Bool, true, false, _&&_, _||_, cond, or-false, and-false, and-or-distrib-left}
 use mathlib.Core.List.{List, [], _∷_}
 use mathlib.Core.Path.{_≡_, refl, sym, ap, _∙_, subst}
 use Prim.Native.Nat.{ℕ, zero, suc, _-_, _<_, _≤_}
@@ -9,13 +9,15 @@ use native.Mathlib.Omega.{arith}
 use lib.Dec.{eqb, ltb}
 use lib.ListN.{length, getD, take}
 use lib.Seq.{take-suc, take-length}
-use borrow.Author.Tests.{ltb-true, lt-ltb, le-ltb, eqb-true, eqb-false, eq-eqb}
+use borrow.Author.Tests.{ltb-true, lt-ltb, le-ltb, eqb-true, eq-eqb}
 use Rattle.facts.specs.Sets.{width, has}
 use Rattle.table.proofs.Formation.{formed-well}
-use Rattle.table.proofs.FlagLaws.{same-flag, both, and-both}
+use Rattle.table.proofs.FlagLaws.{same-flag, is-false, both, and-both}
 use Rattle.table.proofs.OrderLaws.{isIn-append}
+use Rattle.table.proofs.ReplyLaws.{one-answer}
 use Rattle.table.proofs.RepairNumbers.{kind-cases, kindOf-lt, actionOf-lt, permitted-inside, permitted-number, permits-inside}
 use Rattle.table.proofs.RunLaws.{sameCourse-refl, right-same, right-valid, valid-right}
+use Rattle.table.proofs.SettingLaws.{added, dropped}
 use Rattle.table.specs.Answer.{Permitted}
 use Rattle.table.specs.Order.{isIn}
 use Rattle.table.specs.Refusals.{Refusal, none, accepted, notWellFormed, listNotPermitted, firstOf}
@@ -27,7 +29,7 @@ use Rattle.table.specs.declared.Run.{Run}
 use Rattle.table.specs.declared.Table.{Table}
 use Rattle.table.specs.declared.Task.{Task}
 use Rattle.change.specs.Applying.{firstWrong, applyRefusal, AppliedTo, Applies}
-use Rattle.change.specs.declared.Applied.{Applied}
+use Rattle.table.specs.declared.TaskReply.{TaskReply}
 use Rattle.change.specs.Kinds.{numberSet, oneByOne}
 use Rattle.change.proofs.KindLaws.{Long, shaped-long, long-shaped, long-kindSet, cell-kindSet, sizes-kindSet}
 use Rattle.change.proofs.SameLaws.{outside-well, same-table}
@@ -36,26 +38,26 @@ use Rattle.change.proofs.PermittedLaws.{firstWrong-le, permitted-list}
 
 -- ---- numbers made one after another are made at once
 
+cell-named : (g k a n : ℕ) → (eqb k (kindOf n) && eqb a (actionOf n) && eqb g (factOf n)) ≡ true
+    → (k ≡ kindOf n) × (a ≡ actionOf n) × (g ≡ factOf n)
+cell-named g k a n h =
+    let p = both (eqb k (kindOf n) && eqb a (actionOf n)) (eqb g (factOf n)) h in
+    let q = both (eqb k (kindOf n)) (eqb a (actionOf n)) (p .0) in
+    (eqb-true k (kindOf n) (q .0), eqb-true a (actionOf n) (q .1), eqb-true g (factOf n) (p .1))
+
 -- the cell (k, a, g) is the one that the number n names
 number-same : (g k a n : ℕ) → k < kinds
     → (ltb a maxActions && eqb (numberOf g k a) n) ≡ (eqb k (kindOf n) && eqb a (actionOf n) && eqb g (factOf n))
-number-same g k a n hk = same-flag (ltb a maxActions && eqb (numberOf g k a) n) (eqb k (kindOf n) && eqb a (actionOf n) && eqb g (factOf n)) there back
-  where
-    there : (ltb a maxActions && eqb (numberOf g k a) n) ≡ true → (eqb k (kindOf n) && eqb a (actionOf n) && eqb g (factOf n)) ≡ true
-    there h =
-        let p = both (ltb a maxActions) (eqb (numberOf g k a) n) h in
-        let ha = ltb-true a maxActions (p .0) in
-        let e = eqb-true (numberOf g k a) n (p .1) in
-        and-both _ _ (and-both _ _ (eq-eqb k (kindOf n) (omega arith)) (eq-eqb a (actionOf n) (omega arith))) (eq-eqb g (factOf n) (omega arith))
-
-    back : (eqb k (kindOf n) && eqb a (actionOf n) && eqb g (factOf n)) ≡ true → (ltb a maxActions && eqb (numberOf g k a) n) ≡ true
-    back h =
-        let p = both (eqb k (kindOf n) && eqb a (actionOf n)) (eqb g (factOf n)) h in
-        let q = both (eqb k (kindOf n)) (eqb a (actionOf n)) (p .0) in
-        let ek = eqb-true k (kindOf n) (q .0) in
-        let ea = eqb-true a (actionOf n) (q .1) in
-        let eg = eqb-true g (factOf n) (p .1) in
-        and-both _ _ (lt-ltb a maxActions (omega (arith, actionOf-lt n))) (eq-eqb (numberOf g k a) n (omega arith))
+number-same g k a n hk =
+    same-flag (ltb a maxActions && eqb (numberOf g k a) n) (eqb k (kindOf n) && eqb a (actionOf n) && eqb g (factOf n))
+    (λ h.
+    let p = both (ltb a maxActions) (eqb (numberOf g k a) n) h in
+    let ha = ltb-true a maxActions (p .0) in
+    let e = eqb-true (numberOf g k a) n (p .1) in
+    and-both _ _ (and-both _ _ (eq-eqb k (kindOf n) (omega arith)) (eq-eqb a (actionOf n) (omega arith))) (eq-eqb g (factOf n) (omega arith)))
+    (λ h.
+    let e = cell-named g k a n h in
+    and-both _ _ (lt-ltb a maxActions (omega (arith, actionOf-lt n))) (eq-eqb (numberOf g k a) n (omega (arith, e .0, e .1, e .2))))
 
 chosen-more : (l : List ℕ) (i g k a : ℕ) → i < length l → k < kinds
     → chosen (isIn (take (suc i) l)) g k a
@@ -103,23 +105,10 @@ module _ (t : Table) (long : Long t) (l : List ℕ) where
       let before = chosen (isIn (take i l)) g k a in
       cell-kindSet (oneByOne t l i) (actionOf n) (factOf n) (eqb (kindOf n) addEffect) (long-oneByOne i) (actionOf-lt n) (fits i h) (kindOf n) (kindOf-lt n) k a g hk ∙
       ap (λ (b : Bool). cond same (eqb (kindOf n) addEffect) b) (cell-oneByOne fits i (omega arith) k a g hk) ∙
-      make-more same before (eqb (kindOf n) addEffect) (eqb k addEffect) (has (maskOf t k a) g) (λ e. ap (λ (j : ℕ). eqb j addEffect) (sym (named k a g n e))) ∙
+      make-more same before (eqb (kindOf n) addEffect) (eqb k addEffect) (has (maskOf t k a) g) (λ e. ap (λ (j : ℕ). eqb j addEffect) (sym (cell-named g k a n e .0))) ∙
       ap (λ (b : Bool). cond b (eqb k addEffect) (has (maskOf t k a) g)) (sym (chosen-more l i g k a h hk))
-    where
-      named : (k a g n : ℕ) → (eqb k (kindOf n) && eqb a (actionOf n) && eqb g (factOf n)) ≡ true → k ≡ kindOf n
-      named k a g n e =
-          let p = both (eqb k (kindOf n) && eqb a (actionOf n)) (eqb g (factOf n)) e in
-          eqb-true k (kindOf n) (both (eqb k (kindOf n)) (eqb a (actionOf n)) (p .0) .0)
 
 -- ---- the definition, once over the kind
-
-dropped : (c b : Bool) → cond c false b ≡ (b && not c)
-dropped true b = sym (and-false b)
-dropped false b = sym (and-true b)
-
-added : (c b : Bool) → cond c true b ≡ (b || c)
-added true b = sym (or-true b)
-added false b = sym (or-false b)
 
 -- each cell of the table with a list applied: chosen, it has the value of its kind, and else its old one
 pub applied-cell : (t : Task) (l : List ℕ) (u : Task) → AppliedTo t l u → (a g k : ℕ) → k < kinds
@@ -127,9 +116,9 @@ pub applied-cell : (t : Task) (l : List ℕ) (u : Task) → AppliedTo t l u → 
 unfolding cellsOf
 applied-cell t l u d a g =
     kind-cases (λ k. has (maskOf (u .table) k a) g ≡ cond (chosen (isIn l) g k a) (eqb k addEffect) (has (maskOf (t .table) k a) g))
-    (d .deletes a g ∙ sym (dropped (chosen (isIn l) g dropDelete a) (has (maskOf (t .table) dropDelete a) g)))
-    (d .adds a g ∙ sym (added (chosen (isIn l) g addEffect a) (has (maskOf (t .table) addEffect a) g)))
-    (d .needs a g ∙ sym (dropped (chosen (isIn l) g dropNeed a) (has (maskOf (t .table) dropNeed a) g)))
+    (d .deletes a g ∙ dropped (has (maskOf (t .table) dropDelete a) g) (chosen (isIn l) g dropDelete a))
+    (d .adds a g ∙ added (has (maskOf (t .table) addEffect a) g) (chosen (isIn l) g addEffect a))
+    (d .needs a g ∙ dropped (has (maskOf (t .table) dropNeed a) g) (chosen (isIn l) g dropNeed a))
 
 -- "Applying a list changes all its cells at once", and so does making its numbers one after another
 pub made-applied : (t : Task) (l : List ℕ) → Shaped t → ((j : ℕ) → j < length l → factOf (getD l j 0) < width)
@@ -149,9 +138,9 @@ made-applied t l s fits =
       facts = sizes .0;
       actions = sizes .1;
       limit = sizes .2;
-      needs = λ a f. cell dropNeed a f (omega arith) ∙ dropped (chosen (isIn l) f dropNeed a) (has (maskOf (t .table) dropNeed a) f);
-      adds = λ a f. cell addEffect a f (omega arith) ∙ added (chosen (isIn l) f addEffect a) (has (maskOf (t .table) addEffect a) f);
-      deletes = λ a f. cell dropDelete a f (omega arith) ∙ dropped (chosen (isIn l) f dropDelete a) (has (maskOf (t .table) dropDelete a) f);
+      needs = λ a f. cell dropNeed a f (omega arith) ∙ sym (dropped (has (maskOf (t .table) dropNeed a) f) (chosen (isIn l) f dropNeed a));
+      adds = λ a f. cell addEffect a f (omega arith) ∙ sym (added (has (maskOf (t .table) addEffect a) f) (chosen (isIn l) f addEffect a));
+      deletes = λ a f. cell dropDelete a f (omega arith) ∙ sym (dropped (has (maskOf (t .table) dropDelete a) f) (chosen (isIn l) f dropDelete a));
     }
 
 -- ---- the task with a list applied is the only one, and stays well formed
@@ -167,16 +156,12 @@ applied-unique t l u v d e =
 -- a list that is permitted chooses no cell outside the task
 chosen-outside : (c : Cells) (l : List ℕ) → Permitted c l → (g k a : ℕ) → k < kinds → (g < c .facts → a < c .actions → ⊥) → chosen (isIn l) g k a ≡ false
 unfolding chosen
-chosen-outside c l p g k a hk out = pick (ltb a maxActions && isIn l (numberOf g k a)) refl
-  where
-    pick : (b : Bool) → (ltb a maxActions && isIn l (numberOf g k a)) ≡ b → b ≡ false
-    pick true e =
-        let q = both (ltb a maxActions) (isIn l (numberOf g k a)) e in
-        let inside =
-        permits-inside c g k a
-        (sym (permitted-number c g k a hk (ltb-true a maxActions (q .0))) ∙ p .each (numberOf g k a) (q .1)) in
-        absurd (out (inside .0) (inside .1))
-    pick false e = refl
+chosen-outside c l p g k a hk out =
+    is-false (ltb a maxActions && isIn l (numberOf g k a)) (λ e.
+    let q = both (ltb a maxActions) (isIn l (numberOf g k a)) e in
+    let inside =
+    permits-inside c g k a (sym (permitted-number c g k a hk (ltb-true a maxActions (q .0))) ∙ p .each (numberOf g k a) (q .1)) in
+    out (inside .0) (inside .1))
 
 pub applied-well : (t : Task) (l : List ℕ) (u : Task) → WellFormed t → Permitted (cellsOf (t .table)) l → AppliedTo t l u → WellFormed u
 unfolding cellsOf
@@ -215,15 +200,6 @@ applied-valid t l u d w =
 
 -- ---- the three ways out of `apply`
 
-refused-unformed : (t : Task) (l : List ℕ) → formed t ≡ false → applyRefusal t l ≡ record { number = notWellFormed; place = 0 }
-unfolding applyRefusal firstOf
-refused-unformed t l e = rw e
-
-refused-wrong : (t : Task) (l : List ℕ) → formed t ≡ true → firstWrong (cellsOf (t .table)) l < length l
-    → applyRefusal t l ≡ record { number = listNotPermitted; place = firstWrong (cellsOf (t .table)) l }
-unfolding applyRefusal firstOf
-refused-wrong t l e h = rw (e, lt-ltb (firstWrong (cellsOf (t .table)) l) (length l) h)
-
 not-refused : (t : Task) (l : List ℕ) → formed t ≡ true → length l ≤ firstWrong (cellsOf (t .table)) l → applyRefusal t l ≡ none
 unfolding applyRefusal firstOf
 not-refused t l e h = rw (e, le-ltb (firstWrong (cellsOf (t .table)) l) (length l) h)
@@ -239,13 +215,13 @@ refuses t l n p some e = record {
 }
 
 pub applies-unformed : (t : Task) (l : List ℕ) → formed t ≡ false → Applies t l (record { number = notWellFormed; place = 0; task = t })
-applies-unformed t l e = refuses t l notWellFormed 0 (λ z. omega arith) (refused-unformed t l e)
+unfolding applyRefusal firstOf
+applies-unformed t l e = refuses t l notWellFormed 0 (λ z. omega arith) (rw e)
 
 pub applies-wrong : (t : Task) (l : List ℕ) (wrong : ℕ) → wrong ≡ firstWrong (cellsOf (t .table)) l → formed t ≡ true → wrong < length l
     → Applies t l (record { number = listNotPermitted; place = wrong; task = t })
-applies-wrong t l wrong first e h =
-    refuses t l listNotPermitted wrong (λ z. omega arith)
-    (refused-wrong t l e (omega arith) ∙ ap (λ (p : ℕ). record { number = listNotPermitted; place = p }) (sym first))
+unfolding applyRefusal firstOf
+applies-wrong t l wrong first e h = refuses t l listNotPermitted wrong (λ z. omega arith) (rw (e, ← first, lt-ltb wrong (length l) h))
 
 pub applies-made : (t : Task) (l : List ℕ) (u : Table) → u ≡ oneByOne (t .table) l (length l) → Shaped t → formed t ≡ true
     → length l ≤ firstWrong (cellsOf (t .table)) l → Applies t l (record { number = accepted; place = 0; task = record { table = u; run = t .run } })
@@ -270,17 +246,11 @@ applies-made t l u made s e h = record {
 
 -- ---- the contract determines the answer
 
-pub applies-unique : (t : Task) (l : List ℕ) (r s : Applied) → Applies t l r → Applies t l s → r ≡ s
+pub applies-unique : (t : Task) (l : List ℕ) (r s : TaskReply) → Applies t l r → Applies t l s → r ≡ s
 applies-unique t l r s p q =
     let number : r .number ≡ s .number = p .number ∙ sym (q .number) in
     let place : r .place ≡ s .place = p .place ∙ sym (q .place) in
-    let task = by-number (eqb (r .number) accepted) refl in
+    let task =
+    one-answer (λ (u : Task). u ≡ t) (AppliedTo t l) (r .number) (s .number) (r .task) (s .task) number (λ a b. a ∙ sym b)
+    (applied-unique t l (r .task) (s .task)) (p .refused) (q .refused) (p .applied) (q .applied) in
     λ i. record { number = number i; place = place i; task = task i }
-  where
-    by-number : (b : Bool) → eqb (r .number) accepted ≡ b → r .task ≡ s .task
-    by-number true e =
-        let z : r .number ≡ accepted = eqb-true (r .number) accepted e in
-        applied-unique t l (r .task) (s .task) (p .applied z) (q .applied (q .number ∙ sym (p .number) ∙ z))
-    by-number false e =
-        let z : r .number ≡ accepted → ⊥ = eqb-false (r .number) accepted e in
-        p .refused z ∙ sym (q .refused (λ y. z (p .number ∙ sym (q .number) ∙ y)))

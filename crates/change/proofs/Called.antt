@@ -7,13 +7,13 @@ use Rattle.table.specs.Contracts.{Call, AsksNothing}
 use Rattle.table.specs.declared.Task.{Task}
 use Rattle.change.proofs.apply.apply.Reads as apply
 use Rattle.change.specs.Applying.{Applies}
-use Rattle.change.specs.declared.Applied.{Applied}
+use Rattle.table.specs.declared.TaskReply.{TaskReply}
 
 -- Applying the list l to t gives r.
-abbrev pub ApplyGives : Task → List ℕ → Applied → Type 0
-ApplyGives t l r = Call {I = Task × List ℕ} {O = Applied} apply.Post (λ a. (a .0, now (a .1 .0))) (λ r b. r) (t, l) r
+abbrev pub ApplyGives : Task → List ℕ → TaskReply → Type 0
+ApplyGives t l r = Call {I = Task × List ℕ} {O = TaskReply} apply.Post (λ a. (a .0, now (a .1 .0))) (λ r b. r) (t, l) r
 
-pub apply-gives : (t : Task) (l : List ℕ) (r : Applied) → ApplyGives t l r → Applies t l r
+pub apply-gives : (t : Task) (l : List ℕ) (r : TaskReply) → ApplyGives t l r → Applies t l r
 apply-gives t l r = call-keeps (λ i. Applies (i .0) (i .1)) (λ k a r b p. p) (t, l) r
 
 pub apply-asks-nothing : AsksNothing apply.Pre

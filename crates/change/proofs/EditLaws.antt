@@ -17,13 +17,13 @@ use Rattle.table.specs.Sizes.{kinds}
 use Rattle.table.specs.Setting.{setFact}
 use Rattle.table.specs.Tasks.{cellsOf, courseOf, maskOf, KeepsFor, WellFormed}
 use Rattle.table.specs.declared.Task.{Task}
-use Rattle.change.specs.Editing.{cellSet, edited, cellFact, cellInside, cellValue, EditedTo}
+use Rattle.change.specs.Editing.{setCell, edited, cellFact, cellInside, cellValue, EditedTo}
 use Rattle.change.specs.Kinds.{kindSet}
 use Rattle.change.specs.declared.Cell.{Cell}
 use Rattle.change.specs.declared.Cell.the-variants.{Need, Add, Delete, Start, Goal}
 use Rattle.change.specs.declared.Edit.{Edit}
 use Rattle.change.proofs.KindLaws.{shaped-long, long-shaped, long-kindSet, cell-kindSet, sizes-kindSet}
-use Rattle.change.proofs.SameLaws.{SameSizes, SameFact, same-table, outside-well, same-back, keeps-same}
+use Rattle.change.proofs.SameLaws.{SameSizes, SameFact, same-table, outside-well, keeps-same, keeps-same-back}
 
 -- ---- a need, an add or a delete: once over the kind
 
@@ -43,6 +43,19 @@ unfolding cellInside
 kind-inside t a f = kind-cases (λ k. (ltb a (t .table .actions) && ltb f (t .table .facts)) ≡ cellInside t (kindCell k a f)) refl refl refl
 
 -- ---- the code's task has the named cell set, and every other as it was
+
+-- a property of the kinds' cells, of the start and of the goal, each of which is not c, is one of every cell that is not c
+other-cells : (t u : Task) (c : Cell)
+    → ((j b g : ℕ) → j < kinds → (kindCell j b g ≡ c → ⊥) → has (maskOf (u .table) j b) g ≡ has (maskOf (t .table) j b) g)
+    → ((g : ℕ) → (Start g ≡ c → ⊥) → has (u .run .start) g ≡ has (t .run .start) g)
+    → ((g : ℕ) → (Goal g ≡ c → ⊥) → has (u .run .goal) g ≡ has (t .run .goal) g)
+    → (d : Cell) → (d ≡ c → ⊥) → cellValue u d ≡ cellValue t d
+unfolding cellValue cellsOf courseOf
+other-cells t u c kind start goal (Need b g) other = kind dropNeed b g (omega arith) other
+other-cells t u c kind start goal (Add b g) other = kind addEffect b g (omega arith) other
+other-cells t u c kind start goal (Delete b g) other = kind dropDelete b g (omega arith) other
+other-cells t u c kind start goal (Start g) other = start g other
+other-cells t u c kind start goal (Goal g) other = goal g other
 
 module _ (t : Task) (w : WellFormed t) where
   module _ (a f : ℕ) (p : Bool) (inside : (ltb a (t .table .actions) && ltb f (t .table .facts)) ≡ true) (k : ℕ) (hk : k < kinds) where
@@ -73,14 +86,6 @@ module _ (t : Task) (w : WellFormed t) where
         pick true ex false ey z ez = refl
         pick false ex y ey z ez = refl
 
-    kind-others : (c : Cell) → (c ≡ kindCell k a f → ⊥) → cellValue kindEdited c ≡ cellValue t c
-    unfolding cellValue cellsOf courseOf
-    kind-others (Need b g) other = kind-keeps dropNeed b g (omega arith) other
-    kind-others (Add b g) other = kind-keeps addEffect b g (omega arith) other
-    kind-others (Delete b g) other = kind-keeps dropDelete b g (omega arith) other
-    kind-others (Start g) other = refl
-    kind-others (Goal g) other = refl
-
     kind-exactly : EditedTo t (record { cell = kindCell k a f; present = p }) kindEdited
     kind-exactly =
         let same = sizes-kindSet (t .table) a f p k hk in
@@ -92,7 +97,7 @@ module _ (t : Task) (w : WellFormed t) where
           count = refl;
           steps = refl;
           named = kind-sets;
-          others = kind-others;
+          others = other-cells t kindEdited (kindCell k a f) kind-keeps (λ g _. refl) (λ g _. refl);
         }
 
   -- a start or goal fact
@@ -100,8 +105,9 @@ module _ (t : Task) (w : WellFormed t) where
   runSet m n = record { table = t .table; run = record { start = m; goal = n; count = t .run .count; steps = t .run .steps } }
 
   run-exactly : (c : Cell) (p : Bool) (m n : ℕ) → cellValue (runSet m n) c ≡ p
-      → ((d : Cell) → (d ≡ c → ⊥) → cellValue (runSet m n) d ≡ cellValue t d) → EditedTo t (record { cell = c; present = p }) (runSet m n)
-  run-exactly c p m n named others = record {
+      → ((g : ℕ) → (Start g ≡ c → ⊥) → has m g ≡ has (t .run .start) g) → ((g : ℕ) → (Goal g ≡ c → ⊥) → has n g ≡ has (t .run .goal) g)
+      → EditedTo t (record { cell = c; present = p }) (runSet m n)
+  run-exactly c p m n named start goal = record {
     shaped = record { needs = w .shaped .needs; adds = w .shaped .adds; deletes = w .shaped .deletes; steps = w .shaped .steps };
     facts = refl;
     actions = refl;
@@ -109,7 +115,7 @@ module _ (t : Task) (w : WellFormed t) where
     count = refl;
     steps = refl;
     named = named;
-    others = others;
+    others = other-cells t (runSet m n) c (λ j b g _ _. refl) start goal;
   }
 
   module _ (f : ℕ) (p : Bool) (inside : ltb f (t .table .facts) ≡ true) where
@@ -122,32 +128,20 @@ module _ (t : Task) (w : WellFormed t) where
     fact-keeps : (m g : ℕ) → (g ≡ f → ⊥) → has (setFact m f p) g ≡ has m g
     fact-keeps m g other = has-setFact m f p g low ∙ ap (λ (b : Bool). cond b p (has m g)) (ne-eqb g f other)
 
-    start-others : (c : Cell) → (c ≡ Start f → ⊥) → cellValue (cellSet t (Start f) p) c ≡ cellValue t c
-    unfolding cellValue cellSet cellsOf courseOf
-    start-others (Need b g) other = refl
-    start-others (Add b g) other = refl
-    start-others (Delete b g) other = refl
-    start-others (Start g) other = fact-keeps (t .run .start) g (λ e. other (ap Start e))
-    start-others (Goal g) other = refl
+    start-exactly : EditedTo t (record { cell = Start f; present = p }) (setCell t (Start f) p)
+    unfolding cellValue setCell courseOf
+    start-exactly =
+        run-exactly (Start f) p (setFact (t .run .start) f p) (t .run .goal) (fact-sets (t .run .start))
+        (λ g other. fact-keeps (t .run .start) g (λ e. other (ap Start e))) (λ g _. refl)
 
-    goal-others : (c : Cell) → (c ≡ Goal f → ⊥) → cellValue (cellSet t (Goal f) p) c ≡ cellValue t c
-    unfolding cellValue cellSet cellsOf courseOf
-    goal-others (Need b g) other = refl
-    goal-others (Add b g) other = refl
-    goal-others (Delete b g) other = refl
-    goal-others (Start g) other = refl
-    goal-others (Goal g) other = fact-keeps (t .run .goal) g (λ e. other (ap Goal e))
+    goal-exactly : EditedTo t (record { cell = Goal f; present = p }) (setCell t (Goal f) p)
+    unfolding cellValue setCell courseOf
+    goal-exactly =
+        run-exactly (Goal f) p (t .run .start) (setFact (t .run .goal) f p) (fact-sets (t .run .goal)) (λ g _. refl)
+        (λ g other. fact-keeps (t .run .goal) g (λ e. other (ap Goal e)))
 
-    start-exactly : EditedTo t (record { cell = Start f; present = p }) (cellSet t (Start f) p)
-    unfolding cellValue cellSet courseOf
-    start-exactly = run-exactly (Start f) p (setFact (t .run .start) f p) (t .run .goal) (fact-sets (t .run .start)) start-others
-
-    goal-exactly : EditedTo t (record { cell = Goal f; present = p }) (cellSet t (Goal f) p)
-    unfolding cellValue cellSet courseOf
-    goal-exactly = run-exactly (Goal f) p (t .run .start) (setFact (t .run .goal) f p) (fact-sets (t .run .goal)) goal-others
-
-  cell-exactly : (c : Cell) (p : Bool) → cellInside t c ≡ true → EditedTo t (record { cell = c; present = p }) (cellSet t c p)
-  unfolding cellSet cellInside kindSet
+  cell-exactly : (c : Cell) (p : Bool) → cellInside t c ≡ true → EditedTo t (record { cell = c; present = p }) (setCell t c p)
+  unfolding setCell cellInside kindSet
   cell-exactly (Need a f) p h = kind-exactly a f p h dropNeed (omega arith)
   cell-exactly (Add a f) p h = kind-exactly a f p h addEffect (omega arith)
   cell-exactly (Delete a f) p h = kind-exactly a f p h dropDelete (omega arith)
@@ -224,4 +218,4 @@ module _ (t : Task) (e : Edit) (u : Task) (d : EditedTo t e u) where
   keeps-elsewhere g other l = keeps-same g t u (edited-elsewhere g other) l
 
   pub keeps-elsewhere-back : (g : ℕ) → (g ≡ cellFact (e .cell) → ⊥) → (l : List ℕ) → KeepsFor u g l → KeepsFor t g l
-  keeps-elsewhere-back g other l = keeps-same g u t (same-back g t u (edited-elsewhere g other)) l
+  keeps-elsewhere-back g other l = keeps-same-back g t u (edited-elsewhere g other) l

@@ -1,22 +1,22 @@
 -- Laws of one cell of a table, once over the kind of repair that concerns it: what `kindSet` changes and what it leaves. Assumes nothing.
-use mathlib.Core.Bool.{Bool, true, false, not, _&&_, cond, Bool·beq}
+use mathlib.Core.Bool.{Bool, true, false, _&&_, cond}
 use mathlib.Core.List.{List}
-use mathlib.Core.Path.{_≡_, refl, sym, ap, _∙_, subst}
-use Prim.Native.Nat.{ℕ, _+_, _<_, _≤_}
+use mathlib.Core.Path.{_≡_, refl, sym, ap, _∙_}
+use Prim.Native.Nat.{ℕ, _+_, _<_}
 use native.Mathlib.Numerals.{add-one}
 use native.Mathlib.Omega.{arith}
-use lib.Dec.{eqb, ltb}
+use lib.Dec.{eqb}
 use lib.ListN.{length, getD, length-set}
-use borrow.Author.Tests.{eqb-true}
 use Rattle.facts.specs.Sets.{width, has}
-use Rattle.table.specs.Repairs.{dropDelete, addEffect, dropNeed, byKind, factOf, kindOf, actionOf, permits, permitted}
+use Rattle.table.specs.Repairs.{dropDelete, addEffect, dropNeed, byKind}
 use Rattle.table.specs.Sizes.{maxActions, kinds}
-use Rattle.table.specs.Tasks.{cellsOf, maskOf, Shaped}
+use Rattle.table.specs.Tasks.{maskOf, Shaped}
 use Rattle.table.specs.declared.Table.{Table}
 use Rattle.table.specs.declared.Task.{Task}
+use Rattle.table.proofs.FlagLaws.{cond-by}
 use Rattle.table.proofs.RepairNumbers.{kind-cases}
-use Rattle.table.proofs.SettingLaws.{has-setFact, getD-setCell}
-use Rattle.table.specs.Setting.{setFact, setCell}
+use Rattle.table.proofs.SettingLaws.{has-setFact, getD-setIn}
+use Rattle.table.specs.Setting.{setFact, setIn}
 use Rattle.change.specs.Kinds.{kindSet, numberSet, oneByOne}
 
 -- ---- the three kinds alike
@@ -47,21 +47,20 @@ long-shaped u t long s = record {
 
 module _ (t : Table) (a f : ℕ) (p : Bool) where
   sets-kindSet : (k : ℕ) → k < kinds → (j : ℕ) → j < kinds
-      → setsOf (kindSet t k a f p) j ≡ cond (eqb j k) (setCell (setsOf t j) a f p) (setsOf t j)
+      → setsOf (kindSet t k a f p) j ≡ cond (eqb j k) (setIn (setsOf t j) a f p) (setsOf t j)
   unfolding kindSet
   sets-kindSet =
       kind-cases
-      (λ k. (j : ℕ) → j < kinds → setsOf (kindSet t k a f p) j ≡ cond (eqb j k) (setCell (setsOf t j) a f p) (setsOf t j))
-      (kind-cases (λ j. setsOf (kindSet t dropDelete a f p) j ≡ cond (eqb j dropDelete) (setCell (setsOf t j) a f p) (setsOf t j)) refl refl refl)
-      (kind-cases (λ j. setsOf (kindSet t addEffect a f p) j ≡ cond (eqb j addEffect) (setCell (setsOf t j) a f p) (setsOf t j)) refl refl refl)
-      (kind-cases (λ j. setsOf (kindSet t dropNeed a f p) j ≡ cond (eqb j dropNeed) (setCell (setsOf t j) a f p) (setsOf t j)) refl refl refl)
+      (λ k. (j : ℕ) → j < kinds → setsOf (kindSet t k a f p) j ≡ cond (eqb j k) (setIn (setsOf t j) a f p) (setsOf t j))
+      (kind-cases (λ j. setsOf (kindSet t dropDelete a f p) j ≡ cond (eqb j dropDelete) (setIn (setsOf t j) a f p) (setsOf t j)) refl refl refl)
+      (kind-cases (λ j. setsOf (kindSet t addEffect a f p) j ≡ cond (eqb j addEffect) (setIn (setsOf t j) a f p) (setsOf t j)) refl refl refl)
+      (kind-cases (λ j. setsOf (kindSet t dropNeed a f p) j ≡ cond (eqb j dropNeed) (setIn (setsOf t j) a f p) (setsOf t j)) refl refl refl)
 
   pub long-kindSet : Long t → (k : ℕ) → k < kinds → Long (kindSet t k a f p)
-  long-kindSet long k hk j hj = ap length (sets-kindSet k hk j hj) ∙ pick (eqb j k)
-    where
-      pick : (e : Bool) → length (cond e (setCell (setsOf t j) a f p) (setsOf t j)) ≡ maxActions
-      pick true = length-set (setsOf t j) a (setFact (getD (setsOf t j) a 0) f p) ∙ long j hj
-      pick false = long j hj
+  long-kindSet long k hk j hj =
+      ap length (sets-kindSet k hk j hj) ∙
+      cond-by (λ (s : List ℕ). length s ≡ maxActions) (eqb j k)
+      (λ _. length-set (setsOf t j) a (setFact (getD (setsOf t j) a 0) f p) ∙ long j hj) (λ _. long j hj)
 
   -- the one law of a cell that is set: it has the value, and every other cell is as it was
   pub cell-kindSet : Long t → a < maxActions → f < width → (k : ℕ) → k < kinds → (j b g : ℕ) → j < kinds
@@ -77,8 +76,8 @@ module _ (t : Table) (a f : ℕ) (p : Bool) where
       inner true = has-setFact old f p g hf
       inner false = refl
 
-      pick : (e : Bool) → has (getD (cond e (setCell (setsOf t j) a f p) (setsOf t j)) b 0) g ≡ cond (e && eqb b a && eqb g f) p (has old g)
-      pick true = ap (λ (m : ℕ). has m g) (getD-setCell (setsOf t j) a f p b (omega (arith, long j hj))) ∙ inner (eqb b a)
+      pick : (e : Bool) → has (getD (cond e (setIn (setsOf t j) a f p) (setsOf t j)) b 0) g ≡ cond (e && eqb b a && eqb g f) p (has old g)
+      pick true = ap (λ (m : ℕ). has m g) (getD-setIn (setsOf t j) a f p b (omega (arith, long j hj))) ∙ inner (eqb b a)
       pick false = refl
 
   -- the sizes are as they were
@@ -90,36 +89,7 @@ module _ (t : Table) (a f : ℕ) (p : Bool) where
       (λ k. (kindSet t k a f p .facts ≡ t .facts) × (kindSet t k a f p .actions ≡ t .actions) × (kindSet t k a f p .limit ≡ t .limit))
       (refl, refl, refl) (refl, refl, refl) (refl, refl, refl)
 
--- ---- a permitted repair, read off the mask of its kind
-
--- a delete or a need that is present, an add that is absent
-permits-kind : (d a n f k : ℕ) → not (Bool·beq (has (byKind k d a n) f) (eqb k addEffect)) ≡ byKind k (has d f) (not (has a f)) (has n f)
-permits-kind d a n f k = pick (eqb k dropDelete) (eqb k addEffect) refl refl
-  where
-    present : (b : Bool) → not (Bool·beq b false) ≡ b
-    present true = refl
-    present false = refl
-
-    absent : (b : Bool) → not (Bool·beq b true) ≡ not b
-    absent true = refl
-    absent false = refl
-
-    pick : (p q : Bool) → eqb k dropDelete ≡ p → eqb k addEffect ≡ q
-        → not (Bool·beq (has (cond p d (cond q a n)) f) q) ≡ cond p (has d f) (cond q (not (has a f)) (has n f))
-    pick true true e g = absurd (omega (arith, eqb-true k dropDelete e, eqb-true k addEffect g))
-    pick true false e g = present (has d f)
-    pick false true e g = absent (has a f)
-    pick false false e g = present (has n f)
-
-pub permitted-mask : (t : Table) (n : ℕ)
-    → (ltb (factOf n) (t .facts) && ltb (actionOf n) (t .actions) && not (Bool·beq (has (maskOf t (kindOf n) (actionOf n)) (factOf n)) (eqb (kindOf n) addEffect)))
-    ≡ permitted (cellsOf t) n
-unfolding permitted permits cellsOf
-permitted-mask t n =
-    ap (λ (b : Bool). ltb (factOf n) (t .facts) && ltb (actionOf n) (t .actions) && b)
-    (permits-kind (getD (t .deletes) (actionOf n) 0) (getD (t .adds) (actionOf n) 0) (getD (t .needs) (actionOf n) 0) (factOf n) (kindOf n))
-
--- ---- numbers made one after another: at the loop's start, after a turn, at its end
+-- ---- numbers made one after another: at the loop's start and after a turn
 
 pub oneByOne-none : (t : Table) (l : List ℕ) → t ≡ oneByOne t l 0
 unfolding oneByOne
@@ -128,8 +98,3 @@ oneByOne-none t l = refl
 pub oneByOne-more : (t : Table) (l : List ℕ) (i : ℕ) {u v : Table} → u ≡ oneByOne t l i → v ≡ numberSet u (getD l i 0) → v ≡ oneByOne t l (i + 1)
 unfolding oneByOne
 oneByOne-more t l i e g = rw (add-one, ← e) g
-
-pub oneByOne-end : (t : Table) (l : List ℕ) (i n : ℕ) {u : Table} → i ≤ n → n ≤ i → u ≡ oneByOne t l i → u ≡ oneByOne t l n
-oneByOne-end t l i n {u} h k e =
-    let same : i ≡ n = omega arith in
-    subst (λ (j : ℕ). u ≡ oneByOne t l j) same e

@@ -1,7 +1,7 @@
 -- Laws of lists by index: what is in a list stands at an index, and a list ascends if each number is below the next. Assumes nothing.
 use mathlib.Core.Bool.{true}
 use mathlib.Core.List.{List, [], _∷_}
-use mathlib.Core.Logic.{_⊎_, inl, inr}
+use mathlib.Core.Logic.{⊎-elim}
 use mathlib.Core.Path.{_≡_, sym, subst}
 use Prim.Native.Nat.{ℕ, zero, suc, _<_, _≤_}
 use native.Mathlib.Omega.{arith}
@@ -16,11 +16,8 @@ getD-isIn (x ∷ l) (suc i) h = isIn-tail x l (getD l i 0) (getD-isIn l i (omega
 
 pub isIn-all : (P : ℕ → Type 0) (l : List ℕ) → ((i : ℕ) → i < length l → P (getD l i 0)) → (n : ℕ) → isIn l n ≡ true → P n
 isIn-all P [] each n h = absurd (isIn-none n h)
-isIn-all P (x ∷ l) each n h = pick (isIn-cases x l n h) (isIn-all P l (λ i m. each (suc i) (omega arith)) n)
-  where
-    pick : (n ≡ x) ⊎ (isIn l n ≡ true) → (isIn l n ≡ true → P n) → P n
-    pick (inl e) rest = subst P (sym e) (each 0 (omega arith))
-    pick (inr m) rest = rest m
+isIn-all P (x ∷ l) each n h =
+    ⊎-elim (λ e. subst P (sym e) (each 0 (omega arith))) (isIn-all P l (λ i m. each (suc i) (omega arith)) n) (isIn-cases x l n h)
 
 -- a list ascends if its first number is not too low and each is below the next, and back
 pub steps-ascending : (low : ℕ) (l : List ℕ) → (0 < length l → low ≤ getD l 0 0)

@@ -8,7 +8,7 @@ use native.Mathlib.Omega.{arith}
 use lib.Dec.{ltb, leb}
 use lib.ListN.{length, getD}
 use borrow.Author.Tests.{lt-ltb, leb-false, lt-leb, not-false}
-use Rattle.table.proofs.CountingLaws.{firstWhere-found, firstWhere-none, firstWhere-first, firstWhere-le}
+use Rattle.table.proofs.CountingLaws.{firstWhere-found, firstWhere-none, firstWhere-at}
 use Rattle.table.proofs.FlagLaws.{or-neither}
 use Rattle.table.specs.Answer.{Permitted}
 use Rattle.table.specs.Refusals.{none}
@@ -31,7 +31,7 @@ firstWrong-none c l i h k none =
 
 pub firstWrong-le : (c : Cells) (l : List ℕ) → firstWrong c l ≤ length l
 unfolding firstWrong
-firstWrong-le c l = firstWhere-le (wrongAt c l) (length l)
+firstWrong-le c l = firstWhere-at (wrongAt c l) (length l) .inside
 
 -- ---- no wrong number, a permitted list
 
@@ -42,7 +42,7 @@ neither false e d = rw d
 module _ (c : Cells) (l : List ℕ) where
   none-wrong : firstWrong c l ≡ length l → (i : ℕ) → i < length l → wrongAt c l i ≡ false
   unfolding firstWrong
-  none-wrong h i m = firstWhere-first (wrongAt c l) (length l) i (omega arith)
+  none-wrong h i m = firstWhere-at (wrongAt c l) (length l) .before i (omega arith)
 
   -- the two parts of a number that is not wrong
   right-permitted : (i : ℕ) → wrongAt c l i ≡ false → permitted c (getD l i 0) ≡ true

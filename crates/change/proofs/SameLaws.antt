@@ -1,25 +1,23 @@
 -- What two tasks can have in common, and what follows: a change inside the task keeps it well formed, and a fact that is the same keeps the
 -- lists that keep it right. Assumes nothing.
-use mathlib.Core.Bool.{Bool, false, not, _&&_, _||_, Bool·beq}
+use mathlib.Core.Bool.{false}
 use mathlib.Core.List.{List}
-use mathlib.Core.Path.{_≡_, sym, ap, _∙_, subst}
+use mathlib.Core.Path.{_≡_, sym, ap, _∙_}
 use Prim.Native.Nat.{ℕ, _<_, _≤_}
 use native.Mathlib.Omega.{arith}
-use lib.Dec.{eqb, ltb}
+use lib.Dec.{ltb}
 use lib.ListN.{getD}
 use lib.Seq.{ext-getD}
 use Rattle.facts.specs.Sets.{has}
 use Rattle.facts.proofs.Laws.{same-sets}
+use Rattle.table.proofs.AnswerLaws.{AlikeAt, alike-sym, keeps-alike}
 use Rattle.table.proofs.Formation.{byKind-all}
-use Rattle.table.proofs.RepairNumbers.{kindOf-lt}
-use Rattle.table.proofs.RunLaws.{SameAt, SameCourseAt, right-same}
-use Rattle.table.specs.Order.{isIn}
-use Rattle.table.specs.Repairs.{dropDelete, addEffect, dropNeed, factOf, kindOf, actionOf, permitted, chosen, repaired}
+use Rattle.table.proofs.RunLaws.{SameCourseAt, sameCourse-sym}
+use Rattle.table.specs.Repairs.{dropDelete, addEffect, dropNeed}
 use Rattle.table.specs.Sizes.{kinds}
-use Rattle.table.specs.Strips.{Course}
 use Rattle.table.specs.Tasks.{cellsOf, courseOf, maskOf, KeepsFor, Shaped, WellFormed}
 use Rattle.table.specs.declared.Task.{Task}
-use Rattle.change.proofs.KindLaws.{setsOf, mask-sets, shaped-long, permitted-mask}
+use Rattle.change.proofs.KindLaws.{setsOf, mask-sets, shaped-long}
 
 -- ---- what two tasks have in common
 
@@ -107,36 +105,16 @@ outside-well t u w o = record {
 
 -- ---- a fact that is the same keeps its lists
 
-pub same-back : (g : ℕ) (t u : Task) → SameFact g t u → SameFact g u t
-same-back g t u s = record {
-  sizes = record {
-    facts = sym (s .sizes .facts);
-    actions = sym (s .sizes .actions);
-    limit = sym (s .sizes .limit);
-    count = sym (s .sizes .count);
-    steps = sym (s .sizes .steps);
-  };
-  cell = λ k a h. sym (s .cell k a h);
-  start = sym (s .start);
-  goal = sym (s .goal);
-}
-
 module _ (g : ℕ) (t u : Task) (s : SameFact g t u) where
-  -- the two tables agree at g, whatever the actions of the run
-  pub same-cells : (r : Course) → SameAt g r (cellsOf (t .table)) (cellsOf (u .table))
+  -- the two tables agree at g
+  same-cells : AlikeAt g (cellsOf (t .table)) (cellsOf (u .table))
   unfolding cellsOf
-  same-cells r = record {
-    needs = λ i h. sym (s .cell dropNeed (r .step i) (omega arith));
-    adds = λ i h. sym (s .cell addEffect (r .step i) (omega arith));
-    deletes = λ i h. sym (s .cell dropDelete (r .step i) (omega arith));
-  }
-
-  -- and with the same repairs applied
-  pub same-repaired : (R : ℕ → Bool) (r : Course) → SameAt g r (repaired (cellsOf (t .table)) R) (repaired (cellsOf (u .table)) R)
-  same-repaired R r = record {
-    needs = λ i h. ap (λ (b : Bool). b && not (chosen R g dropNeed (r .step i))) (same-cells r .needs i h);
-    adds = λ i h. ap (λ (b : Bool). b || chosen R g addEffect (r .step i)) (same-cells r .adds i h);
-    deletes = λ i h. ap (λ (b : Bool). b && not (chosen R g dropDelete (r .step i))) (same-cells r .deletes i h);
+  same-cells = record {
+    inside = ap (ltb g) (sym (s .sizes .facts));
+    actions = sym (s .sizes .actions);
+    needs = λ a. sym (s .cell dropNeed a (omega arith));
+    adds = λ a. sym (s .cell addEffect a (omega arith));
+    deletes = λ a. sym (s .cell dropDelete a (omega arith));
   }
 
   pub same-course : SameCourseAt g (courseOf (t .run)) (courseOf (u .run))
@@ -148,23 +126,10 @@ module _ (g : ℕ) (t u : Task) (s : SameFact g t u) where
     steps = λ i h. ap (λ (l : List ℕ). getD l i 0) (sym (s .sizes .steps));
   }
 
-  same-permitted : (n : ℕ) → factOf n ≡ g → permitted (cellsOf (t .table)) n ≡ permitted (cellsOf (u .table)) n
-  same-permitted n own =
-      let cell : has (maskOf (t .table) (kindOf n) (actionOf n)) (factOf n) ≡ has (maskOf (u .table) (kindOf n) (actionOf n)) (factOf n) =
-      subst (λ (f : ℕ). has (maskOf (t .table) (kindOf n) (actionOf n)) f ≡ has (maskOf (u .table) (kindOf n) (actionOf n)) f) (sym own)
-      (sym (s .cell (kindOf n) (actionOf n) (kindOf-lt n))) in
-      sym (permitted-mask (t .table) n) ∙
-      (λ i. ltb (factOf n) (sym (s .sizes .facts) i) && ltb (actionOf n) (sym (s .sizes .actions) i) && not (Bool·beq (cell i) (eqb (kindOf n) addEffect))) ∙
-      permitted-mask (u .table) n
-
   pub keeps-same : (l : List ℕ) → KeepsFor t g l → KeepsFor u g l
-  keeps-same l k = record {
-    permitted = record {
-      ascending = k .permitted .ascending;
-      each = λ n h. sym (same-permitted n (k .own n h)) ∙ k .permitted .each n h;
-    };
-    own = k .own;
-    right =
-        right-same g (courseOf (t .run)) (courseOf (u .run)) (repaired (cellsOf (t .table)) (isIn l)) (repaired (cellsOf (u .table)) (isIn l))
-        (same-repaired (isIn l) (courseOf (t .run))) same-course (k .right);
-  }
+  keeps-same = keeps-alike g (cellsOf (t .table)) (cellsOf (u .table)) same-cells (courseOf (t .run)) (courseOf (u .run)) same-course
+
+  pub keeps-same-back : (l : List ℕ) → KeepsFor u g l → KeepsFor t g l
+  keeps-same-back =
+      keeps-alike g (cellsOf (u .table)) (cellsOf (t .table)) (alike-sym g (cellsOf (t .table)) (cellsOf (u .table)) same-cells)
+      (courseOf (u .run)) (courseOf (t .run)) (sameCourse-sym g (courseOf (t .run)) (courseOf (u .run)) same-course)

@@ -12,7 +12,7 @@ use Rattle.table.specs.Repairs.{permitted, repaired}
 use Rattle.table.specs.Strips.{Cells}
 use Rattle.table.specs.Tasks.{cellsOf, formed, Shaped}
 use Rattle.table.specs.declared.Task.{Task}
-use Rattle.change.specs.declared.Applied.{Applied}
+use Rattle.table.specs.declared.TaskReply.{TaskReply}
 
 -- 15: the number at an index does not ascend, or names no permitted repair.
 unfoldable pub wrongAt : Cells → List ℕ → ℕ → Bool
@@ -44,7 +44,7 @@ pub record AppliedTo (t : Task) (l : List ℕ) (u : Task) : Type 0 where
   pub deletes : (a f : ℕ) → cellsOf (u .table) .deletes a f ≡ repaired (cellsOf (t .table)) (isIn l) .deletes a f
 
 -- What a call gives: the refusal with the task given, or 0, 0 and the task with the list applied.
-pub record Applies (t : Task) (l : List ℕ) (r : Applied) : Type 0 where
+pub record Applies (t : Task) (l : List ℕ) (r : TaskReply) : Type 0 where
   pub number : r .number ≡ applyRefusal t l .number
   pub place : r .place ≡ applyRefusal t l .place
   pub refused : (r .number ≡ accepted → ⊥) → r .task ≡ t

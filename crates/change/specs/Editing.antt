@@ -5,7 +5,7 @@ use mathlib.Core.List.{List}
 use mathlib.Core.Path.{_≡_}
 use Prim.Native.Nat.{ℕ}
 use lib.Dec.{ltb}
-use Rattle.table.specs.Setting.{setFact, setCell}
+use Rattle.table.specs.Setting.{setFact, setIn}
 use Rattle.table.specs.Tasks.{cellsOf, courseOf, Shaped}
 use Rattle.table.specs.declared.Task.{Task}
 use Rattle.table.specs.declared.Table.{Table}
@@ -68,12 +68,12 @@ abbrev pub withGoal : Run → ℕ → Run
 withGoal r m = record { start = r .start; goal = m; count = r .count; steps = r .steps }
 
 -- The task with the cell set.
-unfoldable pub cellSet : Task → Cell → Bool → Task
-cellSet t (Need a f) p = record { table = withNeeds (t .table) (setCell (t .table .needs) a f p); run = t .run }
-cellSet t (Add a f) p = record { table = withAdds (t .table) (setCell (t .table .adds) a f p); run = t .run }
-cellSet t (Delete a f) p = record { table = withDeletes (t .table) (setCell (t .table .deletes) a f p); run = t .run }
-cellSet t (Start f) p = record { table = t .table; run = withStart (t .run) (setFact (t .run .start) f p) }
-cellSet t (Goal f) p = record { table = t .table; run = withGoal (t .run) (setFact (t .run .goal) f p) }
+unfoldable pub setCell : Task → Cell → Bool → Task
+setCell t (Need a f) p = record { table = withNeeds (t .table) (setIn (t .table .needs) a f p); run = t .run }
+setCell t (Add a f) p = record { table = withAdds (t .table) (setIn (t .table .adds) a f p); run = t .run }
+setCell t (Delete a f) p = record { table = withDeletes (t .table) (setIn (t .table .deletes) a f p); run = t .run }
+setCell t (Start f) p = record { table = t .table; run = withStart (t .run) (setFact (t .run .start) f p) }
+setCell t (Goal f) p = record { table = t .table; run = withGoal (t .run) (setFact (t .run .goal) f p) }
 
 abbrev pub edited : Task → Edit → Task
-edited t e = cellSet t (e .cell) (e .present)
+edited t e = setCell t (e .cell) (e .present)

@@ -8,13 +8,13 @@ use lib.ListN.{getD}
 use Rattle.table.specs.Repairs.{byKind, addEffect, factOf, kindOf, actionOf}
 use Rattle.table.specs.declared.Table.{Table}
 use Rattle.change.specs.Editing.{withNeeds, withAdds, withDeletes}
-use Rattle.table.specs.Setting.{setCell}
+use Rattle.table.specs.Setting.{setIn}
 
 -- The table with fact f of action a set to present or absent, in the deletes, adds or needs by the kind of repair that concerns them.
 unfoldable pub kindSet : Table → ℕ → ℕ → ℕ → Bool → Table
 kindSet t k a f present =
-    byKind {A = Table} k (withDeletes t (setCell (t .deletes) a f present)) (withAdds t (setCell (t .adds) a f present))
-    (withNeeds t (setCell (t .needs) a f present))
+    byKind {A = Table} k (withDeletes t (setIn (t .deletes) a f present)) (withAdds t (setIn (t .adds) a f present))
+    (withNeeds t (setIn (t .needs) a f present))
 
 -- The table with the repair of one number made: an added effect is then present, a dropped delete or need absent.
 unfoldable pub numberSet : Table → ℕ → Table

@@ -1,9 +1,10 @@
 // Applying a list of repairs (document 01, "The model and its run"): refusals 12 and 15, else all cells of the list at once.
-use crate::Applied;
 use crate::cells;
 use table::Table;
 use table::Task;
+use table::TaskReply;
 use table::formed;
+use table::permitted;
 use table::refusals;
 use table::repair::Repair;
 ghost use mathlib.Core.Bool.{_&&_};
@@ -11,25 +12,9 @@ ghost use mathlib.Core.Path.{_≡_};
 ghost use Prim.Native.Nat.{_-_, _<_};
 ghost use lib.Dec.{ltb, leb};
 ghost use lib.ListN.{length, getD};
-ghost use Rattle.table.specs.Repairs.{permitted};
 ghost use Rattle.table.specs.Tasks.{cellsOf};
 ghost use Rattle.change.specs.Applying.{wrongAt, firstWrong, Applies};
 ghost use Rattle.change.specs.Kinds.{numberSet, oneByOne};
-
-// Whether the number names a permitted repair: an add must be absent, a delete or a need present, and both its fact and its
-// action in the task.
-pub fn is_permitted(t: Table, n: usize) -> bool
-    ensures { λ r. ⌜ r ≡ permitted (cellsOf t) n ⌝ }
-{
-    let repair = Repair::of(n);
-    let fact = repair.fact;
-    let kind = repair.kind;
-    let action = repair.action;
-    let facts = t.facts;
-    let actions = t.actions;
-    let present = facts::contains(cells::mask_of(t, kind, action), fact);
-    (fact < facts) & (action < actions) & (present != (kind == Repair::ADD_EFFECT))
-}
 
 // Whether the number at an index does not ascend; the first always does.
 fn is_not_after(list: &[u16], i: usize) -> bool
@@ -45,7 +30,7 @@ fn is_wrong_at(t: Table, list: &[u16], i: usize) -> bool
     ensures { λ r. ⌜ r ≡ wrongAt (cellsOf t) (now (list .entry)) i ⌝ }
 {
     let n = list[i] as usize;
-    is_not_after(list, i) | !is_permitted(t, n)
+    is_not_after(list, i) | !permitted::is_permitted(t, n)
 }
 
 // "index of the first such"; the list's length where there is none.
@@ -86,11 +71,11 @@ fn make_all(t: Table, list: &[u16]) -> Table
 }
 
 // Applies the list, or gives the refusal and the task as it was.
-pub fn apply(t: Task, list: &[u16]) -> Applied
+pub fn apply(t: Task, list: &[u16]) -> TaskReply
     ensures { λ r. ⌜ Applies t (now (list .entry)) r ⌝ }
 {
     if !formed::is_formed(t) {
-        return Applied {
+        return TaskReply {
             number: refusals::NOT_WELL_FORMED,
             place: 0,
             task: t,
@@ -100,7 +85,7 @@ pub fn apply(t: Task, list: &[u16]) -> Applied
     let run = t.run;
     let wrong = first_wrong(before, list);
     if wrong < list.len() {
-        return Applied {
+        return TaskReply {
             number: refusals::LIST_NOT_PERMITTED,
             place: wrong,
             task: t,
@@ -108,7 +93,7 @@ pub fn apply(t: Task, list: &[u16]) -> Applied
     }
     let table = make_all(before, list);
     let task = Task { table, run };
-    Applied {
+    TaskReply {
         number: refusals::ACCEPTED,
         place: 0,
         task,

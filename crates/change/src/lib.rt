@@ -4,8 +4,6 @@ pub mod apply;
 mod cells;
 pub mod editing;
 
-use table::Task;
-
 // Which cell an edit names: a need, an add or a delete, by action and fact; or a start or goal fact.
 pub enum Cell {
     Need { action: usize, fact: usize },
@@ -19,11 +17,4 @@ pub enum Cell {
 pub struct Edit {
     pub cell: Cell,
     pub present: bool,
-}
-
-// What applying a list gives: 0, 0 and the repaired task, or the refusal and the task given.
-pub struct Applied {
-    pub number: usize,
-    pub place: usize,
-    pub task: Task,
 }

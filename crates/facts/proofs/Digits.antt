@@ -4,7 +4,7 @@ use mathlib.Core.Path.{_≡_, refl, sym, ap, _∙_}
 use Prim.Native.Nat.{ℕ, zero, suc, _-_, _/_, _%_, _^_, _<_, min, max}
 use native.Mathlib.Nat.{not-suc-le-zero, le-of-suc-le-suc, zero-lt-suc, pow-suc, mul-comm, div-div-eq-div-mul, div-one, mod-lt}
 use native.Mathlib.Omega.{arith}
-use lib.Bits.{bitAnd, bitOr, and-step, or-step, and-shr, or-shr, and-le-l}
+use lib.Bits.{and-step, or-step, and-le-l}
 use lib.Dec.{eqb}
 use Rattle.facts.specs.Sets.{bit, has, joined, shared, removed}
 
@@ -39,19 +39,21 @@ pub has-half : (m f : ℕ) → has m (suc f) ≡ has (m / 2) f
 unfolding has
 has-half m f = ap (λ (x : ℕ). eqb x 1) (bit-half m f)
 
+-- an operation that halves with its masks, and is d on their lowest bits, is d on every bit
+by-halves :
+    (op d : ℕ → ℕ → ℕ) → ((a b : ℕ) → op a b / 2 ≡ op (a / 2) (b / 2)) → ((a b : ℕ) → op a b % 2 ≡ d (a % 2) (b % 2))
+    → (a b f : ℕ) → bit (op a b) f ≡ d (bit a f) (bit b f)
+by-halves op d half low a b zero = rw (bit-first (op a b), bit-first a, bit-first b) (low a b)
+by-halves op d half low a b (suc f) =
+    rw (bit-half (op a b) f, bit-half a f, bit-half b f, half a b) (by-halves op d half low (a / 2) (b / 2) f)
+
 pub bit-joined : (a b f : ℕ) → bit (joined a b) f ≡ max (bit a f) (bit b f)
 unfolding joined
-bit-joined a b f = ap (λ (x : ℕ). x % 2) (or-shr a b f) ∙ low (a / 2 ^ f) (b / 2 ^ f)
-  where
-    low : (x y : ℕ) → bitOr x y % 2 ≡ max (x % 2) (y % 2)
-    low x y = omega (arith, or-step x y)
+bit-joined = by-halves joined max (λ a b. omega (arith, or-step a b)) (λ a b. omega (arith, or-step a b))
 
 pub bit-shared : (a b f : ℕ) → bit (shared a b) f ≡ min (bit a f) (bit b f)
 unfolding shared
-bit-shared a b f = ap (λ (x : ℕ). x % 2) (and-shr a b f) ∙ low (a / 2 ^ f) (b / 2 ^ f)
-  where
-    low : (x y : ℕ) → bitAnd x y % 2 ≡ min (x % 2) (y % 2)
-    low x y = omega (arith, and-step x y)
+bit-shared = by-halves shared min (λ a b. omega (arith, and-step a b)) (λ a b. omega (arith, and-step a b))
 
 pub removed-half : (a b : ℕ) → removed a b / 2 ≡ removed (a / 2) (b / 2)
 unfolding removed
@@ -62,6 +64,4 @@ unfolding removed
 removed-odd a b = omega (arith, and-step a b, and-le-l (a / 2) (b / 2))
 
 pub bit-removed : (a b f : ℕ) → bit (removed a b) f ≡ bit a f - min (bit a f) (bit b f)
-bit-removed a b zero = rw (bit-first (removed a b), bit-first a, bit-first b) (removed-odd a b)
-bit-removed a b (suc f) =
-    rw (bit-half (removed a b) f, bit-half a f, bit-half b f, removed-half a b) (bit-removed (a / 2) (b / 2) f)
+bit-removed = by-halves removed (λ x y. x - min x y) removed-half removed-odd

@@ -5,10 +5,10 @@ use mathlib.Core.Path.{_≡_, refl, sym, ap, _∙_}
 use Prim.Native.Nat.{ℕ, zero, suc, _+_, _-_, _/_, _%_, _^_, _≤_, _<_, min, max, zero-le, suc-le-suc}
 use native.Mathlib.Nat.{lt-of-lt-of-le, lt-of-not-le, zero-lt-suc, div-eq-of-lt, zero-div}
 use native.Mathlib.Omega.{arith}
-use lib.Bits.{and-le-l, or-lt}
+use lib.Bits.{bitOr, and-le-l, and-le-r, or-lt, or-add-and}
 use lib.Dec.{eqb, ltb, eqb·zero-suc, eqb·suc-zero, eqb·suc-suc, leb·suc-zero, leb·suc-suc}
 use lib.Pow.{pow-pos, pow-mono}
-use borrow.Author.Tests.{ltb-true, lt-ltb, le-ltb}
+use borrow.Author.Tests.{ltb-true, ltb-false, lt-ltb, le-ltb}
 use Rattle.facts.specs.Sets.{width, bit, has, only, joined, shared, removed, below, within}
 use Rattle.facts.proofs.Digits.{digits, digit-same, bit-lt, bit-first, has-half, bit-joined, bit-shared, bit-removed}
 
@@ -97,6 +97,16 @@ lt-within m n h = lt-ltb m (2 ^ n) h
 
 pub within-has : (m n f : ℕ) → within m n ≡ true → n ≤ f → has m f ≡ false
 within-has m n f h l = has-above m n f (within-lt m n h) l
+
+-- a join has no fact from n on exactly if neither part has one
+pub within-joined : (a b n : ℕ) → within (joined a b) n ≡ (within a n && within b n)
+unfolding within joined
+within-joined a b n = pick (ltb a (2 ^ n)) (ltb b (2 ^ n)) refl refl
+  where
+    pick : (p q : Bool) → ltb a (2 ^ n) ≡ p → ltb b (2 ^ n) ≡ q → ltb (bitOr a b) (2 ^ n) ≡ (p && q)
+    pick true true h k = lt-ltb (bitOr a b) (2 ^ n) (or-lt n a b (ltb-true a (2 ^ n) h) (ltb-true b (2 ^ n) k))
+    pick true false h k = le-ltb (bitOr a b) (2 ^ n) (omega (arith, or-add-and a b, and-le-l a b, ltb-false b (2 ^ n) k))
+    pick false q h k = le-ltb (bitOr a b) (2 ^ n) (omega (arith, or-add-and a b, and-le-r a b, ltb-false a (2 ^ n) h))
 
 -- what is in a mask of n facts is below n
 pub within-below : (m n f : ℕ) → within m n ≡ true → has m f ≡ true → f < n

@@ -1,4 +1,5 @@
 -- What other crates cite of `runcheck`.
 pub mod TallyLaws
+pub mod StateLaws
 pub mod Valid
 pub mod Called

@@ -1,6 +1,6 @@
--- The tally of a run: how large it is, what one step more makes of it, and that the tally of all steps and the goals is the report.
--- Assumes nothing.
-use mathlib.Core.Bool.{Bool, true, false, not, _&&_, _||_, cond}
+-- The tally of a run, in any states: how large it is, what one step more makes of it, and that the tally of all steps and the goals is the
+-- report. Which states the run check takes is not looked at here (StateLaws). Assumes nothing.
+use mathlib.Core.Bool.{Bool, true, false, not, _&&_, cond}
 use mathlib.Core.Path.{_≡_, refl, sym, ap, _∙_}
 use Prim.Native.Nat.{ℕ, _+_, _*_, _^_, _<_, _≤_}
 use native.Mathlib.Omega.{arith}
@@ -9,13 +9,13 @@ use lib.ListN.{getD}
 use borrow.Author.Tests.{lt-ltb, le-ltb, eq-eqb, ne-eqb}
 use Rattle.facts.specs.Sets.{width, has, removed, count, lowest}
 use Rattle.facts.proofs.Counting.{count-none, count-empty}
-use Rattle.facts.proofs.Laws.{has-joined, has-removed, has-within, within-lt, removed-lt}
+use Rattle.facts.proofs.Laws.{has-removed, has-within, within-lt, removed-lt}
 use Rattle.table.specs.Counting.{sumBelow, firstWhere}
 use Rattle.table.specs.Refusals.{accepted}
 use Rattle.table.specs.Repairs.{dropNeed}
 use Rattle.table.specs.Sizes.{maxFacts}
-use Rattle.table.specs.Strips.{Cells, Course, stateAt}
-use Rattle.table.specs.Tasks.{WellFormed, cellsOf, courseOf, formed, maskOf}
+use Rattle.table.specs.Strips.{Cells, Course}
+use Rattle.table.specs.Tasks.{WellFormed, cellsOf, courseOf, maskOf}
 use Rattle.table.specs.declared.Task.{Task}
 use Rattle.table.proofs.FlagLaws.{by-order}
 use Rattle.table.proofs.CountingLaws.{
@@ -31,9 +31,8 @@ use Rattle.table.proofs.CountingLaws.{
   firstWhere-same,
   firstWhere-mask,
 }
-use Rattle.table.proofs.RunLaws.{stateAt-first, stateAt-next}
-use Rattle.runcheck.specs.OpenNeeds.{isOpen, openAt, totalOpen, firstOpen, lowestOpen, openReport, checked}
-use Rattle.runcheck.specs.Tallies.{stepped, nothing, firstBelow, tallyAt, noted}
+use Rattle.runcheck.specs.OpenNeeds.{States, isOpen, openAt, totalOpen, firstOpen, lowestOpen, openReport}
+use Rattle.runcheck.specs.Tallies.{nothing, firstBelow, tallyAt, noted}
 use Rattle.runcheck.specs.declared.Checked.{Checked}
 use Rattle.runcheck.specs.declared.Tally.{Tally}
 
@@ -56,124 +55,117 @@ noted-later s absent step h = rw (ne-eqb (s .total) 0 (λ e. omega arith))
 
 -- ---- the tally of the first n steps
 
-module _ (c : Cells) (r : Course) where
-  tally-none : (n : ℕ) → sumBelow (openAt c r) n ≡ 0 → tallyAt c r n ≡ nothing
-  unfolding tallyAt
-  tally-none n e = rw (eq-eqb (sumBelow (openAt c r) n) 0 e)
+module _ (c : Cells) (r : Course) (states : States) where
+  -- how many needs the first n steps have open
+  abbrev sum : ℕ → ℕ
+  sum = sumBelow (openAt c r states)
 
-  tally-some : (n k m : ℕ) → sumBelow (openAt c r) n ≡ m → 0 < m → firstBelow c r n ≡ k
-      → tallyAt c r n ≡ record { total = m; step = k + 1; fact = firstWhere (isOpen c r k) (c .facts) }
+  abbrev tally : ℕ → Tally
+  tally = tallyAt c r states
+
+  tally-none : (n : ℕ) → sum n ≡ 0 → tally n ≡ nothing
+  unfolding tallyAt
+  tally-none n e = rw (eq-eqb (sum n) 0 e)
+
+  tally-some : (n k m : ℕ) → sum n ≡ m → 0 < m → firstBelow c r states n ≡ k
+      → tally n ≡ record { total = m; step = k + 1; fact = firstWhere (isOpen c r states k) (c .facts) }
   unfolding tallyAt
   tally-some n k m s h e = rw (s, e, ne-eqb m 0 (λ z. omega arith))
 
-  pub tally-start : tallyAt c r 0 ≡ nothing
+  pub tally-start : tally 0 ≡ nothing
   unfolding sumBelow
   tally-start = tally-none 0 refl
 
-  pub tally-total : (n : ℕ) → tallyAt c r n .total ≡ sumBelow (openAt c r) n
+  pub tally-total : (n : ℕ) → tally n .total ≡ sum n
   unfolding tallyAt
   tally-total n =
-      by-order 0 (sumBelow (openAt c r) n) (λ l. rw (ne-eqb (sumBelow (openAt c r) n) 0 (λ e. omega arith)))
-      (λ l. let e : sumBelow (openAt c r) n ≡ 0 = omega arith in rw e)
+      by-order 0 (sum n) (λ l. rw (ne-eqb (sum n) 0 (λ e. omega arith))) (λ l.
+      let e : sum n ≡ 0 = omega arith in
+      rw e)
 
-  pub tally-le : (n : ℕ) → c .facts ≤ maxFacts → tallyAt c r n .total ≤ n * maxFacts
+  pub tally-le : (n : ℕ) → c .facts ≤ maxFacts → tally n .total ≤ n * maxFacts
   unfolding openAt
   tally-le n h =
-      omega (arith, tally-total n, sumBelow-le (openAt c r) n maxFacts (λ i l. omega (arith, countBelow-le (isOpen c r i) (c .facts))))
+      omega (arith, tally-total n, sumBelow-le (openAt c r states) n maxFacts (λ i l. omega (arith, countBelow-le (isOpen c r states i) (c .facts))))
 
   -- one step more, whose open needs are the mask `absent`
-  module _ (n absent : ℕ) (fits : c .facts ≤ width) (small : absent < 2 ^ c .facts) (same : (f : ℕ) → has absent f ≡ isOpen c r n f) where
-    open-count : openAt c r n ≡ count absent
+  module _ (n absent : ℕ) (fits : c .facts ≤ width) (small : absent < 2 ^ c .facts) (same : (f : ℕ) → has absent f ≡ isOpen c r states n f) where
+    open-count : openAt c r states n ≡ count absent
     unfolding openAt
     open-count =
-        countBelow-same (isOpen c r n) (has absent) (c .facts) (λ f h. sym (same f)) ∙ countBelow-mask absent (c .facts) fits small
+        countBelow-same (isOpen c r states n) (has absent) (c .facts) (λ f h. sym (same f)) ∙ countBelow-mask absent (c .facts) fits small
 
-    open-lowest : 0 < absent → firstWhere (isOpen c r n) (c .facts) ≡ lowest absent
+    open-lowest : 0 < absent → firstWhere (isOpen c r states n) (c .facts) ≡ lowest absent
     open-lowest h =
-        firstWhere-same (isOpen c r n) (has absent) (c .facts) (λ f l. sym (same f)) ∙ firstWhere-mask absent (c .facts) fits h small
+        firstWhere-same (isOpen c r states n) (has absent) (c .facts) (λ f l. sym (same f)) ∙ firstWhere-mask absent (c .facts) fits h small
 
-    next-sum : sumBelow (openAt c r) (n + 1) ≡ sumBelow (openAt c r) n + count absent
-    next-sum = sumBelow-next (openAt c r) n ∙ ap (λ x. sumBelow (openAt c r) n + x) open-count
+    next-sum : sum (n + 1) ≡ sum n + count absent
+    next-sum = sumBelow-next (openAt c r states) n ∙ ap (λ x. sum n + x) open-count
 
-    later : 0 < sumBelow (openAt c r) n → noted (tallyAt c r n) absent (n + 1) ≡ tallyAt c r (n + 1)
+    later : 0 < sum n → noted (tally n) absent (n + 1) ≡ tally (n + 1)
     unfolding firstBelow
     later h =
-        let k = firstBelow c r n in
-        let stays = firstWhere-stays (λ i. ltb 0 (openAt c r i)) n (sumBelow-some (openAt c r) n h) in
-        ap (λ s. noted s absent (n + 1)) (tally-some n k (sumBelow (openAt c r) n) refl h refl) ∙
-        noted-later (record { total = sumBelow (openAt c r) n; step = k + 1; fact = firstWhere (isOpen c r k) (c .facts) }) absent (n + 1) h ∙
-        sym (tally-some (n + 1) k (sumBelow (openAt c r) n + count absent) next-sum (omega arith) stays)
+        let k = firstBelow c r states n in
+        let stays = firstWhere-stays (λ i. ltb 0 (openAt c r states i)) n (sumBelow-some (openAt c r states) n h) in
+        ap (λ s. noted s absent (n + 1)) (tally-some n k (sum n) refl h refl) ∙
+        noted-later (record { total = sum n; step = k + 1; fact = firstWhere (isOpen c r states k) (c .facts) }) absent (n + 1) h ∙
+        sym (tally-some (n + 1) k (sum n + count absent) next-sum (omega arith) stays)
 
-    first : sumBelow (openAt c r) n ≡ 0 → 0 < absent → noted (tallyAt c r n) absent (n + 1) ≡ tallyAt c r (n + 1)
+    first : sum n ≡ 0 → 0 < absent → noted (tally n) absent (n + 1) ≡ tally (n + 1)
     unfolding firstBelow
     first e h =
         let some : 0 < count absent = by-order 0 (count absent) (λ l. l) (λ l. absurd (omega (arith, count-none absent (omega arith)))) in
         let here =
-        firstWhere-found (λ i. ltb 0 (openAt c r i)) (n + 1) n (omega arith) (lt-ltb 0 (openAt c r n) (omega (arith, open-count)))
-        (λ i l. le-ltb 0 (openAt c r i) (omega (arith, sumBelow-zero (openAt c r) n e i l))) in
+        firstWhere-found (λ i. ltb 0 (openAt c r states i)) (n + 1) n (omega arith) (lt-ltb 0 (openAt c r states n) (omega (arith, open-count)))
+        (λ i l. le-ltb 0 (openAt c r states i) (omega (arith, sumBelow-zero (openAt c r states) n e i l))) in
         ap (λ s. noted s absent (n + 1)) (tally-none n e) ∙ noted-first absent (n + 1) h ∙
         ap (λ f. record { total = count absent; step = n + 1; fact = f }) (sym (open-lowest h)) ∙
         sym (tally-some (n + 1) n (count absent) (omega (arith, next-sum)) some here)
 
-    none : sumBelow (openAt c r) n ≡ 0 → absent ≡ 0 → noted (tallyAt c r n) absent (n + 1) ≡ tallyAt c r (n + 1)
+    none : sum n ≡ 0 → absent ≡ 0 → noted (tally n) absent (n + 1) ≡ tally (n + 1)
     none e z =
-        let zero-sum : sumBelow (openAt c r) (n + 1) ≡ 0 = omega (arith, next-sum, ap count z, count-empty) in
+        let zero-sum : sum (n + 1) ≡ 0 = omega (arith, next-sum, ap count z, count-empty) in
         (λ j. noted (tally-none n e j) (z j) (n + 1)) ∙ noted-none (n + 1) ∙ sym (tally-none (n + 1) zero-sum)
 
-    pub tally-next : noted (tallyAt c r n) absent (n + 1) ≡ tallyAt c r (n + 1)
+    pub tally-next : noted (tally n) absent (n + 1) ≡ tally (n + 1)
     tally-next =
-        by-order 0 (sumBelow (openAt c r) n) later
-        (λ l. by-order 0 absent (first (omega arith)) (λ z. none (omega arith) (omega arith)))
+        by-order 0 (sum n) later (λ l. by-order 0 absent (first (omega arith)) (λ z. none (omega arith) (omega arith)))
 
 -- ---- the same for a task: masks for sets
 
-abbrev pub tallyFor : Task → ℕ → Tally
-tallyFor t = tallyAt (cellsOf (t .table)) (courseOf (t .run))
+abbrev pub tallyOf : Task → States → ℕ → Tally
+tallyOf t = tallyAt (cellsOf (t .table)) (courseOf (t .run))
 
--- Before step i the mask `state` is the run's state.
-abbrev pub Holds : Task → ℕ → ℕ → Type 0
-Holds t i state = (f : ℕ) → has state f ≡ stateAt (cellsOf (t .table)) (courseOf (t .run)) i f
+-- The mask `state` has the facts that are present before step i.
+abbrev pub IsState : States → ℕ → ℕ → Type 0
+IsState states i state = (f : ℕ) → has state f ≡ states i f
 
-pub start-holds : (t : Task) → Holds t 0 (t .run .start)
-unfolding courseOf
-start-holds t f = sym (stateAt-first (cellsOf (t .table)) (courseOf (t .run)) f)
-
-pub tallyFor-le : (t : Task) → WellFormed t → (i : ℕ) → tallyFor t i .total ≤ i * maxFacts
+pub tallyOf-le : (t : Task) → WellFormed t → (states : States) (i : ℕ) → tallyOf t states i .total ≤ i * maxFacts
 unfolding cellsOf
-tallyFor-le t w i = tally-le (cellsOf (t .table)) (courseOf (t .run)) i (w .facts-high)
+tallyOf-le t w states i = tally-le (cellsOf (t .table)) (courseOf (t .run)) states i (w .facts-high)
 
-module _ (t : Task) (w : WellFormed t) (i state : ℕ) (holds : Holds t i state) where
+module _ (t : Task) (w : WellFormed t) (states : States) (i state : ℕ) (is-state : IsState states i state) where
   -- the mask m has what step i wants, or the goals, and "no set has a fact at or above F"
   wanted-next : (m : ℕ) → ((f : ℕ) → t .table .facts ≤ f → has m f ≡ false)
       → ((f : ℕ) → has m f ≡ cond (ltb i (t .run .count)) (has (maskOf (t .table) dropNeed (getD (t .run .steps) i 0)) f) (has (t .run .goal) f))
-      → noted (tallyFor t i) (removed m state) (i + 1) ≡ tallyFor t (i + 1)
+      → noted (tallyOf t states i) (removed m state) (i + 1) ≡ tallyOf t states (i + 1)
   unfolding isOpen cellsOf courseOf
   wanted-next m inside wanted =
-      tally-next (cellsOf (t .table)) (courseOf (t .run)) i (removed m state) (w .facts-high)
+      tally-next (cellsOf (t .table)) (courseOf (t .run)) states i (removed m state) (w .facts-high)
       (removed-lt (t .table .facts) m state (within-lt m (t .table .facts) (has-within m (t .table .facts) inside)))
-      (λ f. has-removed m state f ∙ (λ j. wanted f j && not (holds f j)))
+      (λ f. has-removed m state f ∙ (λ j. wanted f j && not (is-state f j)))
 
   pub needs-next : i < t .run .count
-      → noted (tallyFor t i) (removed (getD (t .table .needs) (getD (t .run .steps) i 0) 0) state) (i + 1) ≡ tallyFor t (i + 1)
+      → noted (tallyOf t states i) (removed (getD (t .table .needs) (getD (t .run .steps) i 0) 0) state) (i + 1) ≡ tallyOf t states (i + 1)
   needs-next h =
       wanted-next (getD (t .table .needs) (getD (t .run .steps) i 0) 0) (w .inside dropNeed (getD (t .run .steps) i 0))
       (λ f. rw (lt-ltb i (t .run .count) h))
 
-  pub goals-next : i ≡ t .run .count → noted (tallyFor t i) (removed (t .run .goal) state) (t .run .count + 1) ≡ tallyFor t (t .run .count + 1)
+  pub goals-next : i ≡ t .run .count
+      → noted (tallyOf t states i) (removed (t .run .goal) state) (t .run .count + 1) ≡ tallyOf t states (t .run .count + 1)
   goals-next e =
       let next = wanted-next (t .run .goal) (w .goal-inside) (λ f. rw (le-ltb i (t .run .count) (omega arith))) in
-      (λ j. noted (tallyFor t i) (removed (t .run .goal) state) (sym e j + 1)) ∙ next ∙ ap (λ (k : ℕ). tallyFor t (k + 1)) e
-
-  -- the state after a step: add wins
-  pub holds-next : Holds t (i + 1)
-      (stepped state (getD (t .table .adds) (getD (t .run .steps) i 0) 0) (getD (t .table .deletes) (getD (t .run .steps) i 0) 0))
-  unfolding cellsOf courseOf
-  holds-next f =
-      let a = getD (t .run .steps) i 0 in
-      let adds = getD (t .table .adds) a 0 in
-      let deletes = getD (t .table .deletes) a 0 in
-      has-joined (removed state deletes) adds f ∙ ap (λ b. b || has adds f) (has-removed state deletes f) ∙
-      ap (λ b. b && not (has deletes f) || has adds f) (holds f) ∙ sym (stateAt-next (cellsOf (t .table)) (courseOf (t .run)) i f)
+      (λ j. noted (tallyOf t states i) (removed (t .run .goal) state) (sym e j + 1)) ∙ next ∙ ap (λ (k : ℕ). tallyOf t states (k + 1)) e
 
 -- ---- the tally of all is the report
 
@@ -185,18 +177,15 @@ choose : (b : Bool) (s : Tally) → cond {A = Checked} b (answer nothing) (answe
 choose true s = refl
 choose false s = refl
 
-pub checked-formed : (t : Task) → formed t ≡ true → checked t ≡ answer (tallyFor t (t .run .count + 1))
-unfolding checked openReport totalOpen firstOpen lowestOpen firstBelow tallyAt courseOf
-checked-formed t h =
-    let c = cellsOf (t .table) in
-    let r = courseOf (t .run) in
-    let n = t .run .count + 1 in
-    rw h
-    (choose (eqb (sumBelow (openAt c r) n) 0)
-    (record { total = sumBelow (openAt c r) n; step = firstBelow c r n + 1; fact = firstWhere (isOpen c r (firstBelow c r n)) (c .facts) }))
+module _ (c : Cells) (r : Course) (states : States) where
+  pub report-tally : openReport c r states ≡ answer (tallyAt c r states (r .count + 1))
+  unfolding openReport totalOpen firstOpen lowestOpen firstBelow tallyAt
+  report-tally =
+      let n = r .count + 1 in
+      let k = firstBelow c r states n in
+      choose (eqb (sum c r states n) 0) (record { total = sum c r states n; step = k + 1; fact = firstWhere (isOpen c r states k) (c .facts) })
 
--- the answer's total is the sum over the steps
-pub checked-total : (t : Task) → formed t ≡ true → checked t .total ≡ totalOpen (cellsOf (t .table)) (courseOf (t .run))
-unfolding totalOpen courseOf
-checked-total t h =
-    ap (λ (x : Checked). x .total) (checked-formed t h) ∙ tally-total (cellsOf (t .table)) (courseOf (t .run)) (t .run .count + 1)
+  -- the answer's total is the sum over the steps
+  pub report-total : openReport c r states .total ≡ totalOpen c r states
+  unfolding totalOpen
+  report-total = ap (λ (x : Checked). x .total) report-tally ∙ tally-total c r states (r .count + 1)

@@ -14,10 +14,10 @@ use Rattle.table.proofs.FlagLaws.{by-order}
 use Rattle.table.proofs.CountingLaws.{sumBelow-zero, zero-sumBelow, countBelow-zero, zero-countBelow}
 use Rattle.table.proofs.Formation.{well-formed}
 use Rattle.table.proofs.JoinLaws.{formed-inside}
-use Rattle.runcheck.specs.OpenNeeds.{isOpen, openAt, totalOpen, checked}
-use Rattle.runcheck.proofs.TallyLaws.{checked-total}
+use Rattle.runcheck.specs.OpenNeeds.{States, isOpen, openAt, totalOpen, checked}
+use Rattle.runcheck.proofs.StateLaws.{checked-total}
 
--- ---- for any table and run: no fact below F is open
+-- ---- for any table, run and states: nothing is open
 
 present : (a b : Bool) → (a && not b) ≡ false → a ≡ true → b ≡ true
 present true true e h = refl
@@ -28,47 +28,55 @@ not-open : (a b : Bool) → (a ≡ true → b ≡ true) → (a && not b) ≡ fal
 not-open true b grows = rw (grows refl)
 not-open false b grows = refl
 
-module _ (c : Cells) (r : Course) where
-  total-none : totalOpen c r ≡ 0 → (i f : ℕ) → i ≤ r .count → f < c .facts → isOpen c r i f ≡ false
+module _ (c : Cells) (r : Course) (states : States) where
+  total-none : totalOpen c r states ≡ 0 → (i f : ℕ) → i ≤ r .count → f < c .facts → isOpen c r states i f ≡ false
   unfolding totalOpen openAt
-  total-none e i f h l = countBelow-zero (isOpen c r i) (c .facts) (sumBelow-zero (openAt c r) (r .count + 1) e i (omega arith)) f l
+  total-none e i f h l =
+      countBelow-zero (isOpen c r states i) (c .facts) (sumBelow-zero (openAt c r states) (r .count + 1) e i (omega arith)) f l
 
-  none-total : ((i f : ℕ) → i ≤ r .count → isOpen c r i f ≡ false) → totalOpen c r ≡ 0
-  unfolding totalOpen openAt
-  none-total none =
-      zero-sumBelow (openAt c r) (r .count + 1) (λ i h. zero-countBelow (isOpen c r i) (c .facts) (λ f l. none i f (omega arith)))
-
-  -- what is open at a step, and at the end
-  open-step : (i f : ℕ) → i < r .count → isOpen c r i f ≡ (c .needs (r .step i) f && not (stateAt c r i f))
+  -- where no need and no goal is at F or above, no fact is open at all
+  pub total-open : Inside c r → totalOpen c r states ≡ 0 → (i f : ℕ) → i ≤ r .count → isOpen c r states i f ≡ false
   unfolding isOpen
-  open-step i f h = rw (lt-ltb i (r .count) h)
-
-  open-goal : (f : ℕ) → isOpen c r (r .count) f ≡ (r .goal f && not (stateAt c r (r .count) f))
-  unfolding isOpen
-  open-goal f = rw (le-ltb (r .count) (r .count) (le-refl (r .count)))
-
-  valid-none : Valid c r → (i f : ℕ) → i ≤ r .count → isOpen c r i f ≡ false
-  valid-none v i f h =
-      by-order i (r .count) (λ l. open-step i f l ∙ not-open (c .needs (r .step i) f) (stateAt c r i f) (v .may-run i l f)) (λ l.
-      let end : i ≡ r .count = omega arith in
-      ap (λ (j : ℕ). isOpen c r j f) end ∙ open-goal f ∙ not-open (r .goal f) (stateAt c r (r .count) f) (v .reaches f))
-
-  pub valid-total : Valid c r → totalOpen c r ≡ 0
-  valid-total v = none-total (valid-none v)
-
-  -- back: where no need and no goal is at F or above, no fact is open at all
-  all-none : Inside c r → totalOpen c r ≡ 0 → (i f : ℕ) → i ≤ r .count → isOpen c r i f ≡ false
-  unfolding isOpen
-  all-none inside e i f h =
+  total-open inside e i f h =
       by-order f (c .facts) (total-none e i f h) (λ l.
       by-order i (r .count) (λ k. rw (lt-ltb i (r .count) k, inside .needs (r .step i) f l)) (λ k. rw (le-ltb i (r .count) k, inside .goal f l)))
 
-  pub total-valid : Inside c r → totalOpen c r ≡ 0 → Valid c r
-  total-valid inside e = record {
-    may-run = λ i h f. present (c .needs (r .step i) f) (stateAt c r i f) (sym (open-step i f h) ∙ all-none inside e i f (le-of-lt h));
-    reaches = λ f.
-        present (r .goal f) (stateAt c r (r .count) f) (sym (open-goal f) ∙ all-none inside e (r .count) f (le-refl (r .count)));
-  }
+  pub open-total : ((i f : ℕ) → i ≤ r .count → isOpen c r states i f ≡ false) → totalOpen c r states ≡ 0
+  unfolding totalOpen openAt
+  open-total none =
+      zero-sumBelow (openAt c r states) (r .count + 1) (λ i h. zero-countBelow (isOpen c r states i) (c .facts) (λ f l. none i f (omega arith)))
+
+  -- what is open at a step, and at the end
+  pub open-step : (i f : ℕ) → i < r .count → isOpen c r states i f ≡ (c .needs (r .step i) f && not (states i f))
+  unfolding isOpen
+  open-step i f h = rw (lt-ltb i (r .count) h)
+
+  pub open-goal : (f : ℕ) → isOpen c r states (r .count) f ≡ (r .goal f && not (states (r .count) f))
+  unfolding isOpen
+  open-goal f = rw (le-ltb (r .count) (r .count) (le-refl (r .count)))
+
+-- ---- in the states of the run, that is: the run is valid
+
+module _ (c : Cells) (r : Course) where
+  abbrev states : States
+  states = stateAt c r
+
+  valid-none : Valid c r → (i f : ℕ) → i ≤ r .count → isOpen c r states i f ≡ false
+  valid-none v i f h =
+      by-order i (r .count) (λ l. open-step c r states i f l ∙ not-open (c .needs (r .step i) f) (states i f) (v .may-run i l f)) (λ l.
+      let end : i ≡ r .count = omega arith in
+      ap (λ (j : ℕ). isOpen c r states j f) end ∙ open-goal c r states f ∙ not-open (r .goal f) (states (r .count) f) (v .reaches f))
+
+  pub valid-total : Valid c r → totalOpen c r states ≡ 0
+  valid-total v = open-total c r states (valid-none v)
+
+  pub total-valid : Inside c r → totalOpen c r states ≡ 0 → Valid c r
+  total-valid inside e =
+      let none = total-open c r states inside e in
+      record {
+        may-run = λ i h f. present (c .needs (r .step i) f) (states i f) (sym (open-step c r states i f h) ∙ none i f (le-of-lt h));
+        reaches = λ f. present (r .goal f) (states (r .count) f) (sym (open-goal c r states f) ∙ none (r .count) f (le-refl (r .count)));
+      }
 
 -- ---- for a task
 
@@ -76,15 +84,10 @@ module _ (t : Task) where
   abbrev pub ValidRun : Type 0
   ValidRun = Valid (cellsOf (t .table)) (courseOf (t .run))
 
-  pub total-zero-valid : WellFormed t → totalOpen (cellsOf (t .table)) (courseOf (t .run)) ≡ 0 → ValidRun
-  total-zero-valid w = total-valid (cellsOf (t .table)) (courseOf (t .run)) (formed-inside t w)
-
-  pub valid-total-zero : ValidRun → totalOpen (cellsOf (t .table)) (courseOf (t .run)) ≡ 0
-  valid-total-zero = valid-total (cellsOf (t .table)) (courseOf (t .run))
-
-  -- The same of the answer: of a well-formed task the call's total is 0 exactly if the run is valid.
+  -- of a well-formed task the call's total is 0 exactly if the run is valid
   pub checked-zero-valid : WellFormed t → checked t .total ≡ 0 → ValidRun
-  checked-zero-valid w e = total-zero-valid w (sym (checked-total t (well-formed t w)) ∙ e)
+  checked-zero-valid w e =
+      total-valid (cellsOf (t .table)) (courseOf (t .run)) (formed-inside t w) (sym (checked-total t (well-formed t w)) ∙ e)
 
   pub valid-checked-zero : WellFormed t → ValidRun → checked t .total ≡ 0
-  valid-checked-zero w v = checked-total t (well-formed t w) ∙ valid-total-zero v
+  valid-checked-zero w v = checked-total t (well-formed t w) ∙ valid-total (cellsOf (t .table)) (courseOf (t .run)) v

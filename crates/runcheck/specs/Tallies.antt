@@ -6,7 +6,7 @@ use lib.Dec.{eqb, ltb}
 use Rattle.facts.specs.Sets.{joined, removed, count, lowest}
 use Rattle.table.specs.Counting.{sumBelow, firstWhere}
 use Rattle.table.specs.Strips.{Cells, Course}
-use Rattle.runcheck.specs.OpenNeeds.{isOpen, openAt}
+use Rattle.runcheck.specs.OpenNeeds.{States, isOpen, openAt}
 use Rattle.runcheck.specs.declared.Tally.{Tally}
 
 -- "Afterwards the state is (state without deletes) joined with adds", of masks.
@@ -18,18 +18,18 @@ abbrev pub nothing : Tally
 nothing = record { total = 0; step = 0; fact = 0 }
 
 -- Of the first n steps: the first that has an open need; n where there is none.
-unfoldable pub firstBelow : Cells → Course → ℕ → ℕ
-firstBelow c r n = firstWhere (λ i. ltb 0 (openAt c r i)) n
+unfoldable pub firstBelow : Cells → Course → States → ℕ → ℕ
+firstBelow c r states n = firstWhere (λ i. ltb 0 (openAt c r states i)) n
 
 -- The tally of the first n steps.
-unfoldable pub tallyAt : Cells → Course → ℕ → Tally
-tallyAt c r n =
-    cond {A = Tally} (eqb (sumBelow (openAt c r) n) 0)
+unfoldable pub tallyAt : Cells → Course → States → ℕ → Tally
+tallyAt c r states n =
+    cond {A = Tally} (eqb (sumBelow (openAt c r states) n) 0)
     nothing
     (record {
-      total = sumBelow (openAt c r) n;
-      step = firstBelow c r n + 1;
-      fact = firstWhere (isOpen c r (firstBelow c r n)) (c .facts);
+      total = sumBelow (openAt c r states) n;
+      step = firstBelow c r states n + 1;
+      fact = firstWhere (isOpen c r states (firstBelow c r states n)) (c .facts);
     })
 
 -- The tally with one step more, whose open needs are the mask `absent`; the step is counted from 1.

@@ -5,7 +5,7 @@ ghost use mathlib.Core.Path.{_≡_};
 ghost use Prim.Native.Nat.{_+_, _*_, _≤_};
 ghost use Rattle.table.specs.Sizes.{maxFacts, maxSteps};
 ghost use Rattle.table.specs.Tasks.{WellFormed, cellsOf, courseOf};
-ghost use Rattle.runcheck.specs.OpenNeeds.{checked};
+ghost use Rattle.runcheck.specs.OpenNeeds.{statesOf, checked};
 ghost use Rattle.runcheck.specs.Tallies.{noted, stepped, tallyAt};
 
 // What a run check answers: 0 and 0, or the refusal; the total of open needs, the first step that has one, counted
@@ -54,7 +54,7 @@ fn after_step(state: u64, adds: u64, deletes: u64) -> u64
 // the needs of one step more.
 fn tally_run(t: Task) -> Tally
     requires { ⌜ WellFormed t ⌝ }
-    ensures { λ r. ⌜ r ≡ tallyAt (cellsOf (t .table)) (courseOf (t .run)) (t .run .count + 1) ⌝ }
+    ensures { λ r. ⌜ r ≡ tallyAt (cellsOf (t .table)) (courseOf (t .run)) (statesOf t) (t .run .count + 1) ⌝ }
 {
     let needs = t.table.needs;
     let adds = t.table.adds;

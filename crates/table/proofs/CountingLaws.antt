@@ -1,20 +1,31 @@
 -- Laws of specs/Counting: sums, counts, the first place where a test holds, tests that every or some number passes; and that a mask's count and its lowest fact are such a
 -- count and such a place. Assumes nothing.
 use mathlib.Core.Bool.{Bool, true, false, _&&_, _||_, cond, false≢true, true≢false}
+use mathlib.Core.Logic.{⊎-elim}
 use mathlib.Core.Path.{_≡_, refl, sym, ap, _∙_, subst}
-use Prim.Native.Nat.{ℕ, zero, suc, _+_, _*_, _^_, _<_, _≤_}
+use Prim.Native.Nat.{ℕ, zero, suc, _+_, _*_, _^_, _<_, _≤_, zero-le}
 use native.Mathlib.Nat.{le-refl, le-of-lt, lt-of-lt-of-le, suc-mul}
 use native.Mathlib.Numerals.{add-one}
 use native.Mathlib.Omega.{arith}
 use lib.Arith.{lt-of-le-ne}
 use lib.Dec.{eqb, ltb}
 use lib.Pow.{pow-mono}
-use borrow.Author.Tests.{eqb-true, eqb-false, ltb-false}
+use borrow.Author.Tests.{eqb-true, eqb-false, ltb-false, lt-ltb, le-ltb}
 use Rattle.facts.specs.Sets.{width, has, count, lowest, sumBits}
 use Rattle.facts.proofs.Counting.{bit-has, count-sum, lowest-has, lowest-first}
 use Rattle.facts.proofs.Laws.{has-above, within-below, lt-within}
-use Rattle.table.specs.Counting.{everyBelow, someBelow, sumBelow, countBelow, firstWhere}
-use Rattle.table.proofs.FlagLaws.{or-neither, both, and-both, by-order}
+use Rattle.table.specs.Counting.{everyBelow, everyFrom, someBelow, sumBelow, countBelow, firstWhere}
+use Rattle.table.proofs.FlagLaws.{or-cases, or-left, or-neither, both, and-both, and-swap, cond-by, by-order}
+
+-- ---- one number more
+
+-- What holds of each number below n, and of n, holds of each below the next.
+pub below-next : (P : ℕ → Type 0) (n : ℕ) → ((i : ℕ) → i < n → P i) → P n → (i : ℕ) → i < suc n → P i
+below-next P n before last i h = by-order i n (before i) (λ (l : n ≤ i). let e : n ≡ i = omega arith in subst P e last)
+
+-- What a loop has at its end is what the bound makes it.
+pub at-end : {A : Type 0} (g : ℕ → A) (i n : ℕ) {x : A} → i ≤ n → n ≤ i → x ≡ g i → x ≡ g n
+at-end g i n l m e = let same : i ≡ n = omega arith in e ∙ ap g same
 
 -- ---- sums
 
@@ -31,10 +42,7 @@ sumBelow-same g h (suc n) same = omega (arith, sumBelow-same g h n (λ i l. same
 pub sumBelow-zero : (g : ℕ → ℕ) (n : ℕ) → sumBelow g n ≡ 0 → (i : ℕ) → i < n → g i ≡ 0
 unfolding sumBelow
 sumBelow-zero g zero e i h = absurd (omega arith)
-sumBelow-zero g (suc n) e i h =
-    by-order i n (sumBelow-zero g n (omega arith) i) (λ (l : n ≤ i).
-    let last : n ≡ i = omega arith in
-    subst (λ (j : ℕ). g j ≡ 0) last (omega arith))
+sumBelow-zero g (suc n) e i h = below-next (λ j. g j ≡ 0) n (sumBelow-zero g n (omega arith)) (omega arith) i h
 
 pub zero-sumBelow : (g : ℕ → ℕ) (n : ℕ) → ((i : ℕ) → i < n → g i ≡ 0) → sumBelow g n ≡ 0
 unfolding sumBelow
@@ -93,25 +101,15 @@ pub record FirstAt (p : ℕ → Bool) (n k : ℕ) : Type 0 where
   pub holds : k < n → p k ≡ true
 
 firstAt-more : (p : ℕ → Bool) (n k : ℕ) → FirstAt p n k → FirstAt p (suc n) (cond (eqb k n) (cond (p n) n (suc n)) k)
-firstAt-more p n k at = go (eqb k n) refl (p n) refl
-  where
-    go : (b : Bool) → eqb k n ≡ b → (t : Bool) → p n ≡ t → FirstAt p (suc n) (cond b (cond t n (suc n)) k)
-    go true e true f = record {
-      inside = omega arith;
-      before = λ i h. at .before i (omega (arith, eqb-true k n e));
-      holds = λ h. f;
-    }
-    go true e false f = record {
-      inside = le-refl (suc n);
-      before = λ i h.
-          by-order i n (λ l. at .before i (omega (arith, eqb-true k n e))) (λ (l : n ≤ i).
-          let last : n ≡ i = omega arith in
-          subst (λ (j : ℕ). p j ≡ false) last f);
-      holds = λ h. absurd (omega arith);
-    }
-    go false e t f =
-        let less : k < n = lt-of-le-ne (at .inside) (eqb-false k n e) in
-        record { inside = omega arith; before = at .before; holds = λ h. at .holds less }
+firstAt-more p n k at =
+    cond-by (FirstAt p (suc n)) (eqb k n)
+    (λ e.
+    let none : (i : ℕ) → i < n → p i ≡ false = λ i l. at .before i (omega (arith, eqb-true k n e)) in
+    cond-by (FirstAt p (suc n)) (p n) (λ f. record { inside = omega arith; before = none; holds = λ h. f })
+    (λ f. record { inside = le-refl (suc n); before = below-next (λ i. p i ≡ false) n none f; holds = λ h. absurd (omega arith) }))
+    (λ e.
+    let less : k < n = lt-of-le-ne (at .inside) (eqb-false k n e) in
+    record { inside = omega arith; before = at .before; holds = λ h. at .holds less })
 
 pub firstWhere-at : (p : ℕ → Bool) (n : ℕ) → FirstAt p n (firstWhere p n)
 unfolding firstWhere
@@ -132,15 +130,6 @@ firstWhere-is p n k at =
     (λ l. by-order k (firstWhere p n) (λ m. absurd (firstAt-not-before p n k (firstWhere p n) at (firstWhere-at p n) m))
     (λ m. omega arith))
 
-pub firstWhere-le : (p : ℕ → Bool) (n : ℕ) → firstWhere p n ≤ n
-firstWhere-le p n = firstWhere-at p n .inside
-
-pub firstWhere-holds : (p : ℕ → Bool) (n : ℕ) → firstWhere p n < n → p (firstWhere p n) ≡ true
-firstWhere-holds p n = firstWhere-at p n .holds
-
-pub firstWhere-first : (p : ℕ → Bool) (n i : ℕ) → i < firstWhere p n → p i ≡ false
-firstWhere-first p n = firstWhere-at p n .before
-
 -- the first that passes; and n where none does
 pub firstWhere-found : (p : ℕ → Bool) (n k : ℕ) → k < n → p k ≡ true → ((i : ℕ) → i < k → p i ≡ false) → firstWhere p n ≡ k
 firstWhere-found p n k h e none = firstWhere-is p n k (record { inside = le-of-lt h; before = none; holds = λ _. e })
@@ -153,22 +142,31 @@ pub firstWhere-same : (p q : ℕ → Bool) (n : ℕ) → ((i : ℕ) → i < n �
 firstWhere-same p q n same =
     firstWhere-is p n (firstWhere q n)
     (record {
-      inside = firstWhere-le q n;
-      before = λ i h. same i (lt-of-lt-of-le h (firstWhere-le q n)) ∙ firstWhere-first q n i h;
-      holds = λ h. same (firstWhere q n) h ∙ firstWhere-holds q n h;
+      inside = firstWhere-at q n .inside;
+      before = λ i h. same i (lt-of-lt-of-le h (firstWhere-at q n .inside)) ∙ firstWhere-at q n .before i h;
+      holds = λ h. same (firstWhere q n) h ∙ firstWhere-at q n .holds h;
     })
+
+-- one number more, in the code's form
+pub firstWhere-next : (p : ℕ → Bool) (i : ℕ) → firstWhere p (i + 1) ≡ cond (eqb (firstWhere p i) i) (cond (p i) i (i + 1)) (firstWhere p i)
+unfolding firstWhere
+firstWhere-next p i = rw (add-one i)
+
+pub firstWhere-zero : (p : ℕ → Bool) → 0 ≡ firstWhere p 0
+unfolding firstWhere
+firstWhere-zero p = refl
 
 -- what was found stays found
 pub firstWhere-stays : (p : ℕ → Bool) (n : ℕ) → firstWhere p n < n → firstWhere p (n + 1) ≡ firstWhere p n
 firstWhere-stays p n h =
-    firstWhere-found p (n + 1) (firstWhere p n) (omega arith) (firstWhere-holds p n h) (firstWhere-first p n)
+    firstWhere-found p (n + 1) (firstWhere p n) (omega arith) (firstWhere-at p n .holds h) (firstWhere-at p n .before)
 
 -- a sum above 0 has a part above 0, and the first such is found
 pub sumBelow-some : (g : ℕ → ℕ) (n : ℕ) → 0 < sumBelow g n → firstWhere (λ i. ltb 0 (g i)) n < n
 sumBelow-some g n h =
     by-order (firstWhere (λ i. ltb 0 (g i)) n) n (λ l. l) (λ l.
     let none : (i : ℕ) → i < n → g i ≡ 0 =
-    λ i k. omega (arith, ltb-false 0 (g i) (firstWhere-first (λ i. ltb 0 (g i)) n i (lt-of-lt-of-le k l))) in
+    λ i k. omega (arith, ltb-false 0 (g i) (firstWhere-at (λ i. ltb 0 (g i)) n .before i (lt-of-lt-of-le k l))) in
     absurd (omega (arith, zero-sumBelow g n none)))
 
 -- ---- masks
@@ -197,7 +195,7 @@ pub everyBelow-next : (p : ℕ → Bool) (i : ℕ) → everyBelow p (i + 1) ≡ 
 unfolding everyBelow
 everyBelow-next p i = rw add-one
 
--- a loop that joins its tests: at its start, after a turn, at its end
+-- a loop that joins its tests: at its start and after a turn
 pub everyBelow-none : (p : ℕ → Bool) → true ≡ everyBelow p 0
 unfolding everyBelow
 everyBelow-none p = refl
@@ -205,24 +203,37 @@ everyBelow-none p = refl
 pub everyBelow-more : (p : ℕ → Bool) (i : ℕ) {good next : Bool} → good ≡ everyBelow p i → next ≡ p i → (good && next) ≡ everyBelow p (i + 1)
 everyBelow-more p i g n = rw (g, n, everyBelow-next p i)
 
-pub everyBelow-end : (p : ℕ → Bool) (i n : ℕ) {good : Bool} → i ≤ n → n ≤ i → good ≡ everyBelow p i → good ≡ everyBelow p n
-everyBelow-end p i n {good} l m g =
-    let e : i ≡ n = omega arith in
-    subst (λ (j : ℕ). good ≡ everyBelow p j) e g
-
 pub everyBelow-all : (p : ℕ → Bool) (n : ℕ) → everyBelow p n ≡ true → (i : ℕ) → i < n → p i ≡ true
 unfolding everyBelow
 everyBelow-all p zero h i l = absurd (omega arith)
 everyBelow-all p (suc n) h i l =
     let two = both (everyBelow p n) (p n) h in
-    by-order i n (everyBelow-all p n (two .0) i) (λ (m : n ≤ i).
-    let e : n ≡ i = omega arith in
-    subst (λ (j : ℕ). p j ≡ true) e (two .1))
+    below-next (λ j. p j ≡ true) n (everyBelow-all p n (two .0)) (two .1) i l
 
 pub all-everyBelow : (p : ℕ → Bool) (n : ℕ) → ((i : ℕ) → i < n → p i ≡ true) → everyBelow p n ≡ true
 unfolding everyBelow
 all-everyBelow p zero h = refl
 all-everyBelow p (suc n) h = and-both _ _ (all-everyBelow p n (λ i l. h i (omega arith))) (h n (omega arith))
+
+-- ---- tests that every number from a place on passes, in the same steps
+
+pub everyFrom-none : (p : ℕ → Bool) (from : ℕ) → true ≡ everyFrom p from from
+unfolding everyFrom
+everyFrom-none p from = sym (all-everyBelow (λ i. ltb i from || p i) from (λ i l. or-left (ltb i from) (p i) (lt-ltb i from l)))
+
+pub everyFrom-more : (p : ℕ → Bool) (from i : ℕ) {good next : Bool} → from ≤ i → good ≡ everyFrom p from i → next ≡ p i → (good && next) ≡ everyFrom p from (i + 1)
+unfolding everyFrom
+everyFrom-more p from i l g n = everyBelow-more (λ i. ltb i from || p i) i g (rw (le-ltb i from l) n)
+
+-- a test that all pass, and one from a place on, are one test of each
+pub everyFrom-both : (p q r : ℕ → Bool) (from n : ℕ) → ((i : ℕ) → (p i && (ltb i from || q i)) ≡ r i)
+    → (everyFrom p 0 n && everyFrom q from n) ≡ everyBelow r n
+unfolding everyFrom everyBelow
+everyFrom-both p q r from zero same = refl
+everyFrom-both p q r from (suc n) same =
+    let here : ((ltb n 0 || p n) && (ltb n from || q n)) ≡ r n = rw (le-ltb n 0 zero-le) (same n) in
+    and-swap (everyBelow (λ i. ltb i 0 || p i) n) (ltb n 0 || p n) (everyBelow (λ i. ltb i from || q i) n) (ltb n from || q n) ∙
+    (λ j. everyFrom-both p q r from n same j && here j)
 
 -- ---- tests that some number below n passes, or none
 
@@ -234,24 +245,15 @@ pub someBelow-next : (p : ℕ → Bool) (i : ℕ) → someBelow p (i + 1) ≡ (s
 unfolding someBelow
 someBelow-next p i = rw add-one
 
-pub some-passes : (p : ℕ → Bool) (n : ℕ) → someBelow p n ≡ true → (i : ℕ) × (p i ≡ true)
+pub some-passes : (p : ℕ → Bool) (n : ℕ) → someBelow p n ≡ true → (i : ℕ) × (i < n) × (p i ≡ true)
 unfolding someBelow
 some-passes p zero h = absurd (false≢true h)
-some-passes p (suc n) h = pick (p n) refl (some-passes p n)
-  where
-    pick : (b : Bool) → p n ≡ b → (someBelow p n ≡ true → (i : ℕ) × (p i ≡ true)) → (i : ℕ) × (p i ≡ true)
-    pick true e before = (n, e)
-    pick false e before = before (left (someBelow p n) (p n) h e)
-      where
-        left : (a b : Bool) → (a || b) ≡ true → b ≡ false → a ≡ true
-        left true b k d = refl
-        left false b k d = absurd (false≢true (sym d ∙ k))
+some-passes p (suc n) h =
+    ⊎-elim (λ e. let q = some-passes p n e in (q .0, omega (arith, q .1), q .2)) (λ e. (n, omega arith, e)) (or-cases (someBelow p n) (p n) h)
 
 pub none-passes : (p : ℕ → Bool) (n : ℕ) → someBelow p n ≡ false → (i : ℕ) → i < n → p i ≡ false
 unfolding someBelow
 none-passes p zero h i l = absurd (omega arith)
 none-passes p (suc n) h i l =
     let t = or-neither (someBelow p n) (p n) h in
-    by-order i n (none-passes p n (t .0) i) (λ (m : n ≤ i).
-    let e : n ≡ i = omega arith in
-    subst (λ (j : ℕ). p j ≡ false) e (t .1))
+    below-next (λ j. p j ≡ false) n (none-passes p n (t .0)) (t .1) i l

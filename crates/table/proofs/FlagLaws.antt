@@ -1,5 +1,5 @@
 -- Laws of flags: when a join, a meeting or a denial of flags is true; and a choice by the order of two numbers.
-use mathlib.Core.Bool.{Bool, true, false, not, _&&_, _||_, false≢true}
+use mathlib.Core.Bool.{Bool, true, false, not, _&&_, _||_, cond, false≢true}
 use mathlib.Core.Logic.{_⊎_, inl, inr}
 use mathlib.Core.Path.{_≡_, refl, sym, ap, _∙_}
 use Prim.Native.Nat.{ℕ, _<_, _≤_}
@@ -40,6 +40,13 @@ pub and-both : (a b : Bool) → a ≡ true → b ≡ true → (a && b) ≡ true
 and-both true b h k = k
 and-both false b h k = h
 
+-- Two pairs of flags, paired the other way.
+pub and-swap : (a b c d : Bool) → (a && b && (c && d)) ≡ (a && c && (b && d))
+and-swap true true c d = refl
+and-swap true false true d = refl
+and-swap true false false d = refl
+and-swap false b c d = refl
+
 -- The larger a flag, the smaller its denial.
 pub not-shrinks : (a b : Bool) → (a ≡ true → b ≡ true) → not b ≡ true → not a ≡ true
 not-shrinks true b grows h = absurd (false≢true (ap not (sym (grows refl)) ∙ h))
@@ -64,9 +71,10 @@ pub is-false : (a : Bool) → (a ≡ true → ⊥) → a ≡ false
 is-false true h = absurd (h refl)
 is-false false h = refl
 
+-- What holds of both sides of a choice, each where it is taken, holds of the choice.
+pub cond-by {ℓ ℓ′} : {A : Type ℓ} (P : A → Type ℓ′) (b : Bool) {x y : A} → (b ≡ true → P x) → (b ≡ false → P y) → P (cond b x y)
+cond-by P true f g = f refl
+cond-by P false f g = g refl
+
 pub by-order {ℓ} : {C : Type ℓ} (a b : ℕ) → (a < b → C) → (b ≤ a → C) → C
-by-order {C} a b f g = go (ltb a b) refl
-  where
-    go : (t : Bool) → ltb a b ≡ t → C
-    go true e = f (ltb-true a b e)
-    go false e = g (ltb-false a b e)
+by-order {C} a b f g = cond-by {A = Bool} (λ _. C) (ltb a b) {x = true} {y = false} (λ e. f (ltb-true a b e)) (λ e. g (ltb-false a b e))

@@ -67,7 +67,7 @@ masks-in t s h k a =
 
 -- ---- the test gives the named parts
 
-sizes-in : (t : Task)
+pub sizes-in : (t : Task)
     → sizesFormed t ≡ true
     → (0 < t .table .facts)
     × (t .table .facts ≤ maxFacts)

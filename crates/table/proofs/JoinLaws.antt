@@ -1,29 +1,52 @@
 -- The join: the verdicts of the single facts, joined in order of fact, are the verdict on the whole task (003).
-use mathlib.Core.Bool.{Bool, true, false, _&&_, _||_, cond, false≢true}
+use mathlib.Core.Bool.{Bool, true, false, _&&_, cond, false≢true}
 use mathlib.Core.List.{List, [], _++_}
 use mathlib.Core.Logic.{_⊎_, inl, inr}
 use mathlib.Core.Path.{_≡_, refl, sym, ap, _∙_, subst}
 use Prim.Native.Nat.{ℕ, zero, suc, _+_, _*_, _<_, _≤_}
 use native.Mathlib.Decide.{decLt}
+use native.Mathlib.Nat.{le-trans, lt-of-lt-of-le}
 use native.Mathlib.Omega.{arith}
 use borrow.Author.Tests.{ltb-true, ltb-false}
 use lib.Dec.{ltb}
 use lib.ListN.{length, length-append}
-use Rattle.table.specs.Counting.{someBelow}
-use Rattle.table.proofs.AnswerLaws.{within-same, permitted-fact, permitted-part, permitted-append, hopeless-none, hopeful-some, over-longer, neither-first}
-use Rattle.table.proofs.FlagLaws.{or-cases, or-neither}
+use Rattle.table.specs.Counting.{someBelow, firstWhere}
+use Rattle.table.proofs.AnswerLaws.{first-same, permitted-fact, permitted-part, permitted-append, hopeless-none, hopeful-some, over-longer, neither-first}
+use Rattle.table.proofs.CountingLaws.{some-passes, none-passes, firstWhere-at}
+use Rattle.table.proofs.FlagLaws.{by-order}
 use Rattle.table.proofs.OrderLaws.{isIn-none, isIn-left, isIn-right, isIn-either, ascending-weaken, ≼-none, ≼-length, ≼-append, Split, split-at, split-left-in, split-right-in, split-either}
-use Rattle.table.proofs.RepairLaws.{right-of-part, right-of-whole}
-use Rattle.table.proofs.RunLaws.{valid-right, right-valid}
+use Rattle.table.proofs.RepairLaws.{repaired-none, right-of-part, right-of-whole}
+use Rattle.table.proofs.RunLaws.{valid-right, right-valid, right-same, sameCourse-refl}
+use Rattle.table.proofs.Strides.{limit-within-row}
 use Rattle.table.specs.Answer.{Permitted, Works, Keeps, First, Verdict, found, over, hopeless, Within}
 use Rattle.table.specs.Lists.{gather}
-use Rattle.table.specs.Join.{KeepsBelow, Inside, isHopeless, isOver, foundList, joinLists, joinVerdicts}
+use Rattle.table.specs.Join.{KeepsBelow, Inside, isHopeless, isOver, foundList, joinLists, Joined, no-list, beyond, in-order, joinRows, readAgainst, joinVerdicts, ComesTo}
 use Rattle.table.specs.Order.{isIn, _≼_}
 use Rattle.table.specs.Repairs.{dropNeed, repaired, factOf}
-use Rattle.table.specs.Sizes.{perFact}
+use Rattle.table.specs.Sizes.{perFact, maxRow}
 use Rattle.table.specs.Strips.{Cells, Course, Right}
 use Rattle.table.specs.Tasks.{cellsOf, courseOf, WorksFor, KeepsFor, WellFormed}
 use Rattle.table.specs.declared.Task.{Task}
+
+-- ---- the limit, read afterwards
+
+comes-same : (G H : List ℕ → Type 0) → ((m : List ℕ) → G m → H m) → ((m : List ℕ) → H m → G m) → (k : ℕ) (j : Joined)
+    → ComesTo G k j → ComesTo H k j
+comes-same G H there back k no-list p = λ m h. p m (back m h)
+comes-same G H there back k (beyond f) p = ((p .0 .0, there (p .0 .0) (p .0 .1)), λ m h. p .1 m (back m h))
+comes-same G H there back k (in-order l) p = first-same G H there back l p
+
+-- Where every fact has a list that a row holds, any limit may be read; where one has not, any that a row could hold.
+pub read-within : (G : List ℕ → Type 0) (k limit : ℕ) (j : Joined) → ((f : ℕ) → j ≡ beyond f → limit ≤ k) → ComesTo G k j
+    → Within G limit (readAgainst limit j)
+unfolding readAgainst
+read-within G k limit no-list low p = p
+read-within G k limit (beyond f) low p = (p .0, λ m h. omega (arith, low f refl, p .1 m h))
+read-within G k limit (in-order l) low p = pick (ltb limit (length l)) refl
+  where
+    pick : (b : Bool) → ltb limit (length l) ≡ b → Within G limit (cond {A = Verdict} b over (found l))
+    pick true e = ((l, p .member), λ m h. omega (arith, ltb-true limit (length l) e, ≼-length l m (p .least m h)))
+    pick false e = (p, ltb-false limit (length l) e)
 
 module _ (c : Cells) (r : Course) where
   -- ---- one fact more
@@ -137,21 +160,6 @@ module _ (c : Cells) (r : Course) where
           subst (λ (w : List ℕ). (a ++ b) ≼ w) (t .whole)
           (≼-append a (t .lower) b (t .last) (p .least (t .lower) (t .lower-keeps)) (q .least (t .last) (t .last-keeps)))
 
-  pub join-hopeless : (n : ℕ) → ((m : List ℕ) → KeepsBelow c r n m → ⊥) ⊎ ((m : List ℕ) → Keeps c r n m → ⊥)
-      → (m : List ℕ) → KeepsBelow c r (suc n) m → ⊥
-  join-hopeless n (inl none) m h = let t = join-parts n m h in none (t .lower) (t .lower-keeps)
-  join-hopeless n (inr none) m h = let t = join-parts n m h in none (t .last) (t .last-keeps)
-
-  pub join-longer : (n k : ℕ)
-      → ((m : List ℕ) → KeepsBelow c r n m → k < length m) ⊎ ((m : List ℕ) → Keeps c r n m → k < length m)
-      → (m : List ℕ) → KeepsBelow c r (suc n) m → k < length m
-  join-longer n k (inl long) m h =
-      let t = join-parts n m h in
-      omega (arith, parts-length n m t, long (t .lower) (t .lower-keeps))
-  join-longer n k (inr long) m h =
-      let t = join-parts n m h in
-      omega (arith, parts-length n m t, long (t .last) (t .last-keeps))
-
   -- ---- all facts
 
   -- A fact outside the task is right, whatever is repaired.
@@ -165,16 +173,18 @@ module _ (c : Cells) (r : Course) where
       unneeded true b e = absurd (false≢true (sym e))
       unneeded false b e = refl
 
-  -- So its first of the shortest lists is the empty one.
-  pub keeps-outside : Inside c r → (f : ℕ) → c .facts ≤ f → First (Keeps c r f) []
-  keeps-outside inside f h = record {
-    member = record {
-      permitted = permitted-none;
-      own = λ n k. absurd (isIn-none n k);
-      right = right-outside inside f h (isIn []);
-    };
+  -- A fact that is right as it stands has the empty list as the first of its shortest.
+  keeps-nothing : (f : ℕ) → Right (repaired c (isIn [])) r f → First (Keeps c r f) []
+  keeps-nothing f right = record {
+    member = record { permitted = permitted-none; own = λ n k. absurd (isIn-none n k); right = right };
     least = λ m k. ≼-none m;
   }
+
+  pub keeps-right : (f : ℕ) → Right c r f → First (Keeps c r f) []
+  keeps-right f right = keeps-nothing f (right-same f r r c (repaired c (isIn [])) (repaired-none c r f) (sameCourse-refl f r) right)
+
+  pub keeps-outside : Inside c r → (f : ℕ) → c .facts ≤ f → First (Keeps c r f) []
+  keeps-outside inside f h = keeps-nothing f (right-outside inside f h (isIn []))
 
   pub keepsBelow-works : Inside c r → (l : List ℕ) → KeepsBelow c r (c .facts) l → Works c r l
   keepsBelow-works inside l p = record {
@@ -193,84 +203,69 @@ module _ (c : Cells) (r : Course) where
     right = λ f h. valid-right (repaired c (isIn l)) r (w .valid) f;
   }
 
+  -- ---- the facts below n, each by itself
+
+  -- A list for the facts below n has one for each of them in it.
+  part-below : (n f : ℕ) → f < n → (m : List ℕ) → KeepsBelow c r n m → (p : List ℕ) × Keeps c r f p × (length p ≤ length m)
+  part-below zero f h m k = absurd (omega arith)
+  part-below (suc n) f h m k =
+      let t = join-parts n m k in
+      by-order f n (λ l.
+      let q = part-below n f l (t .lower) (t .lower-keeps) in
+      (q .0, q .1, omega (arith, q .2, parts-length n m t)))
+      (λ l.
+      let last : n ≡ f = omega arith in
+      (t .last, subst (λ (g : ℕ). Keeps c r g (t .last)) last (t .last-keeps), omega (arith, parts-length n m t)))
+
+  some-below : (n : ℕ) → ((f : ℕ) → f < n → (m : List ℕ) × Keeps c r f m) → (m : List ℕ) × KeepsBelow c r n m
+  some-below zero some = ([], keepsBelow-none)
+  some-below (suc n) some =
+      let a = some-below n (λ f h. some f (omega arith)) in
+      let b = some n (omega arith) in
+      (a .0 ++ b .0, join-keeps n (a .0) (b .0) (a .1) (b .1))
+
+  first-below : (l : ℕ → List ℕ) (n : ℕ) → ((f : ℕ) → f < n → First (Keeps c r f) (l f)) → First (KeepsBelow c r n) (gather l n)
+  unfolding gather
+  first-below l zero first = record { member = keepsBelow-none; least = λ m h. ≼-none m }
+  first-below l (suc n) first = join-first n (gather l n) (l n) (first-below l n (λ f h. first f (omega arith))) (first n (omega arith))
+
   -- ---- the verdicts joined
 
-  -- What the flags of the verdicts below n say of the lists for the facts below n.
-  record Joined (v : ℕ → Verdict) (k n : ℕ) : Type 0 where
-    none : someBelow (λ f. isHopeless (v f)) n ≡ true → (m : List ℕ) → KeepsBelow c r n m → ⊥
-    some : someBelow (λ f. isHopeless (v f)) n ≡ false → (m : List ℕ) × KeepsBelow c r n m
-    longer : someBelow (λ f. isOver (v f)) n ≡ true → (m : List ℕ) → KeepsBelow c r n m → k < length m
-    first : someBelow (λ f. isHopeless (v f)) n ≡ false → someBelow (λ f. isOver (v f)) n ≡ false
-        → First (KeepsBelow c r n) (joinLists v n)
-
-  joined-none : (v : ℕ → Verdict) (k : ℕ) → Joined v k 0
-  unfolding someBelow gather
-  joined-none v k = record {
-    none = λ e. absurd (false≢true e);
-    some = λ e. ([], keepsBelow-none);
-    longer = λ e. absurd (false≢true e);
-    first = λ e d. record { member = keepsBelow-none; least = λ m h. ≼-none m };
-  }
-
-  joined-more : (v : ℕ → Verdict) (k n : ℕ) → Within (Keeps c r n) k (v n) → Joined v k n → Joined v k (suc n)
-  unfolding someBelow gather
-  joined-more v k n w before = record {
-    none = λ e. join-hopeless n (no-list (or-cases (someBelow (λ f. isHopeless (v f)) n) (isHopeless (v n)) e));
-    some = λ e.
-        let t = or-neither (someBelow (λ f. isHopeless (v f)) n) (isHopeless (v n)) e in
-        let a = before .some (t .0) in
-        let b = hopeful-some (Keeps c r n) k (v n) w (t .1) in
-        (a .0 ++ b .0, join-keeps n (a .0) (b .0) (a .1) (b .1));
-    longer = λ e. join-longer n k (long-list (or-cases (someBelow (λ f. isOver (v f)) n) (isOver (v n)) e));
-    first = λ e d.
-        let t = or-neither (someBelow (λ f. isHopeless (v f)) n) (isHopeless (v n)) e in
-        let u = or-neither (someBelow (λ f. isOver (v f)) n) (isOver (v n)) d in
-        join-first n (joinLists v n) (foundList (v n)) (before .first (t .0) (u .0))
-        (neither-first (Keeps c r n) k (v n) w (t .1) (u .1));
-  }
+  -- The joined verdicts of the facts below n, a row holding k repairs, say what they come to for the lists of those facts.
+  pub join-below : (v : ℕ → Verdict) (k n : ℕ) → ((f : ℕ) → f < n → Within (Keeps c r f) k (v f)) → ComesTo (KeepsBelow c r n) k (joinRows v n)
+  unfolding joinRows
+  join-below v k n w = pick (someBelow (λ f. isHopeless (v f)) n) (ltb (firstWhere (λ f. isOver (v f)) n) n) refl refl
     where
-      no-list : (someBelow (λ f. isHopeless (v f)) n ≡ true) ⊎ (isHopeless (v n) ≡ true)
-          → ((m : List ℕ) → KeepsBelow c r n m → ⊥) ⊎ ((m : List ℕ) → Keeps c r n m → ⊥)
-      no-list (inl e) = inl (before .none e)
-      no-list (inr e) = inr (hopeless-none (Keeps c r n) k (v n) w e)
+      hope : someBelow (λ f. isHopeless (v f)) n ≡ false → (f : ℕ) → f < n → isHopeless (v f) ≡ false
+      hope e = none-passes (λ f. isHopeless (v f)) n e
 
-      long-list : (someBelow (λ f. isOver (v f)) n ≡ true) ⊎ (isOver (v n) ≡ true)
-          → ((m : List ℕ) → KeepsBelow c r n m → k < length m) ⊎ ((m : List ℕ) → Keeps c r n m → k < length m)
-      long-list (inl e) = inl (before .longer e)
-      long-list (inr e) = inr (over-longer (Keeps c r n) k (v n) w e)
+      pick : (x y : Bool) → someBelow (λ f. isHopeless (v f)) n ≡ x → ltb (firstWhere (λ f. isOver (v f)) n) n ≡ y
+          → ComesTo (KeepsBelow c r n) k
+          (cond {A = Joined} x no-list (cond {A = Joined} y (beyond (firstWhere (λ f. isOver (v f)) n)) (in-order (joinLists v n))))
+      pick true y ex ey =
+          let p = some-passes (λ f. isHopeless (v f)) n ex in
+          λ m h.
+          let q = part-below n (p .0) (p .1) m h in
+          hopeless-none (Keeps c r (p .0)) k (v (p .0)) (w (p .0) (p .1)) (p .2) (q .0) (q .1)
+      pick false true ex ey =
+          let f = firstWhere (λ f. isOver (v f)) n in
+          let low : f < n = ltb-true f n ey in (
+            some-below n (λ g h. hopeful-some (Keeps c r g) k (v g) (w g h) (hope ex g h)),
+            λ m h.
+                let q = part-below n f low m h in
+                omega (arith, q .2, over-longer (Keeps c r f) k (v f) (w f low) (firstWhere-at (λ f. isOver (v f)) n .holds low) (q .0) (q .1)),
+          )
+      pick false false ex ey =
+          first-below (λ f. foundList (v f)) n (λ f h.
+          neither-first (Keeps c r f) k (v f) (w f h) (hope ex f h)
+          (firstWhere-at (λ f. isOver (v f)) n .before f (lt-of-lt-of-le h (ltb-false (firstWhere (λ f. isOver (v f)) n) n ey))))
 
-  joined-all : (v : ℕ → Verdict) (k n : ℕ) → ((f : ℕ) → f < n → Within (Keeps c r f) k (v f)) → Joined v k n
-  joined-all v k zero w = joined-none v k
-  joined-all v k (suc n) w = joined-more v k n (w n (omega arith)) (joined-all v k n (λ f h. w f (omega arith)))
-
-  -- The joined verdicts of the facts below n are the verdict on the lists for those facts.
-  pub join-below : (v : ℕ → Verdict) (k limit n : ℕ) → limit ≤ k → ((f : ℕ) → f < n → Within (Keeps c r f) k (v f))
-      → Within (KeepsBelow c r n) limit (joinVerdicts v n limit)
-  unfolding joinVerdicts
-  join-below v k limit n h w =
-      pick (someBelow (λ f. isHopeless (v f)) n) (someBelow (λ f. isOver (v f)) n) (ltb limit (length (joinLists v n))) refl refl refl
-    where
-      j : Joined v k n
-      j = joined-all v k n w
-
-      pick : (x y z : Bool) → someBelow (λ f. isHopeless (v f)) n ≡ x → someBelow (λ f. isOver (v f)) n ≡ y
-          → ltb limit (length (joinLists v n)) ≡ z
-          → Within (KeepsBelow c r n) limit (cond {A = Verdict} x hopeless (cond {A = Verdict} (y || z) over (found (joinLists v n))))
-      pick true y z ex ey ez = j .none ex
-      pick false true z ex ey ez = (j .some ex, λ m t. omega (arith, j .longer ey m t))
-      pick false false true ex ey ez = (
-        j .some ex,
-        λ m t.
-            omega (arith, ltb-true limit (length (joinLists v n)) ez, ≼-length (joinLists v n) m (j .first ex ey .least m t)),
-      )
-      pick false false false ex ey ez = (j .first ex ey, ltb-false limit (length (joinLists v n)) ez)
-
-  -- The theorem: each fact can be diagnosed by itself, and the joined verdicts are the verdict on the task.
-  pub join-within : Inside c r → (v : ℕ → Verdict) (k limit : ℕ) → limit ≤ k
-      → ((f : ℕ) → f < c .facts → Within (Keeps c r f) k (v f)) → Within (Works c r) limit (joinVerdicts v (c .facts) limit)
-  join-within inside v k limit h w =
-      within-same (KeepsBelow c r (c .facts)) (Works c r) (keepsBelow-works inside) works-keepsBelow limit
-      (joinVerdicts v (c .facts) limit) (join-below v k limit (c .facts) h w)
+  -- The theorem: each fact can be diagnosed by itself, and the joined verdicts say what they come to for the task.
+  pub join-works : Inside c r → (v : ℕ → Verdict) (k : ℕ) → ((f : ℕ) → f < c .facts → Within (Keeps c r f) k (v f))
+      → ComesTo (Works c r) k (joinRows v (c .facts))
+  join-works inside v k w =
+      comes-same (KeepsBelow c r (c .facts)) (Works c r) (keepsBelow-works inside) works-keepsBelow k (joinRows v (c .facts))
+      (join-below v k (c .facts) w)
 
 -- ---- the same of a well-formed task
 
@@ -278,12 +273,13 @@ pub formed-inside : (t : Task) → WellFormed t → Inside (cellsOf (t .table)) 
 unfolding cellsOf courseOf
 formed-inside t w = record { needs = w .inside dropNeed; goal = w .goal-inside }
 
--- What solving and the session cite: the joined verdicts of a task's facts are the verdict on the lists that work for it.
-pub join-for : (t : Task) → WellFormed t → (v : ℕ → Verdict) (k limit : ℕ) → limit ≤ k
-    → ((f : ℕ) → f < t .table .facts → Within (KeepsFor t f) k (v f))
-    → Within (WorksFor t) limit (joinVerdicts v (t .table .facts) limit)
+-- What solving and the session cite: the joined verdicts of a task's facts, each read off a row, are the verdict on the lists that work for it.
+pub join-for : (t : Task) → WellFormed t → (v : ℕ → Verdict) → ((f : ℕ) → f < t .table .facts → Within (KeepsFor t f) maxRow (v f))
+    → Within (WorksFor t) (t .table .limit) (joinVerdicts v (t .table .facts) (t .table .limit))
 unfolding cellsOf
-join-for t w v k limit h each = join-within (cellsOf (t .table)) (courseOf (t .run)) (formed-inside t w) v k limit h each
+join-for t w v each =
+    read-within (WorksFor t) maxRow (t .table .limit) (joinRows v (t .table .facts)) (λ f e. le-trans (w .limit-high) limit-within-row)
+    (join-works (cellsOf (t .table)) (courseOf (t .run)) (formed-inside t w) v maxRow each)
 
 -- A fact from F up has the empty list, as the session table shows it.
 pub keepsFor-outside : (t : Task) → WellFormed t → (f : ℕ) → t .table .facts ≤ f → First (KeepsFor t f) []

@@ -2,6 +2,7 @@
 -- and the answer, of tasks, of repair numbers, and of what is given into lent room. And the worked examples, for a reader.
 pub mod FlagLaws
 pub mod RefusalLaws
+pub mod ReplyLaws
 pub mod SettingLaws
 pub mod OutcomeLaws
 pub mod CountingLaws
@@ -13,6 +14,7 @@ pub mod AnswerLaws
 pub mod PublishedLaws
 pub mod JoinLaws
 pub mod Formation
+mod PassLaws
 pub mod RepairNumbers
 pub mod Strides
 pub mod ContractLaws

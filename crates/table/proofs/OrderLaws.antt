@@ -1,27 +1,21 @@
 -- Laws of lists of repair numbers: membership, ascending lists, and the order in which shorter lists come first.
 use mathlib.Core.Bool.{true, _||_, or-assoc, false≢true}
 use mathlib.Core.List.{List, [], _∷_, _++_}
-use mathlib.Core.Logic.{_⊎_, inl, inr}
+use mathlib.Core.Logic.{_⊎_, inl, inr, ⊎-elim}
 use mathlib.Core.Path.{_≡_, refl, sym, ap, _∙_, subst}
 use Prim.Native.Nat.{ℕ, suc, _<_, _≤_}
-use native.Mathlib.Decide.{decLt}
 use native.Mathlib.Omega.{arith}
 use borrow.Author.Tests.{eqb-true, eq-eqb}
 use lib.Dec.{eqb}
 use lib.ListN.{length, length-append}
-use Rattle.table.proofs.FlagLaws.{or-cases, or-left, or-right}
+use Rattle.table.proofs.FlagLaws.{or-cases, or-left, or-right, by-order}
 use Rattle.table.specs.Order.{isIn, AscendingFrom, NotAfter, _≼_}
 
 -- ---- two numbers
 
 -- The three ways two numbers can stand.
 pub compared : (x y : ℕ) → (x < y) ⊎ ((x ≡ y) ⊎ (y < x))
-compared x y = pick (decLt x y) (decLt y x)
-  where
-    pick : Dec (x < y) → Dec (y < x) → (x < y) ⊎ ((x ≡ y) ⊎ (y < x))
-    pick (yes p) d = inl p
-    pick (no p) (yes q) = inr (inr q)
-    pick (no p) (no q) = inr (inl (omega arith))
+compared x y = by-order x y inl (λ l. inr (by-order y x inr (λ m. inl (omega arith))))
 
 -- ---- membership
 
@@ -39,11 +33,11 @@ isIn-tail x l n h = or-right (eqb n x) (isIn l n) h
 
 pub isIn-cases : (x : ℕ) (l : List ℕ) (n : ℕ) → isIn (x ∷ l) n ≡ true → (n ≡ x) ⊎ (isIn l n ≡ true)
 unfolding isIn
-isIn-cases x l n h = pick (or-cases (eqb n x) (isIn l n) h)
-  where
-    pick : (eqb n x ≡ true) ⊎ (isIn l n ≡ true) → (n ≡ x) ⊎ (isIn l n ≡ true)
-    pick (inl e) = inl (eqb-true n x e)
-    pick (inr t) = inr t
+isIn-cases x l n h = ⊎-elim (λ e. inl (eqb-true n x e)) inr (or-cases (eqb n x) (isIn l n) h)
+
+-- a member of x ∷ l that is not x is one of l
+isIn-other : (x : ℕ) (l : List ℕ) (n : ℕ) → (n ≡ x → ⊥) → isIn (x ∷ l) n ≡ true → isIn l n ≡ true
+isIn-other x l n other h = ⊎-elim (λ e. absurd (other e)) (λ t. t) (isIn-cases x l n h)
 
 pub isIn-append : (a b : List ℕ) (n : ℕ) → isIn (a ++ b) n ≡ (isIn a n || isIn b n)
 unfolding isIn
@@ -72,11 +66,8 @@ ascending-raise low high (x ∷ l) u above = (above x (isIn-head x l), u .1)
 
 pub ascending-later : (low : ℕ) (l : List ℕ) (n : ℕ) → AscendingFrom low l → isIn l n ≡ true → low ≤ n
 ascending-later low [] n u m = absurd (isIn-none n m)
-ascending-later low (x ∷ l) n u m = pick (isIn-cases x l n m) (λ t. ascending-later (suc x) l n (u .1) t)
-  where
-    pick : (n ≡ x) ⊎ (isIn l n ≡ true) → (isIn l n ≡ true → suc x ≤ n) → low ≤ n
-    pick (inl e) rest = omega (arith, u .0)
-    pick (inr t) rest = omega (arith, u .0, rest t)
+ascending-later low (x ∷ l) n u m =
+    ⊎-elim (λ e. omega (arith, u .0)) (λ t. omega (arith, u .0, ascending-later (suc x) l n (u .1) t)) (isIn-cases x l n m)
 
 pub ascending-append : (low mid : ℕ) (a b : List ℕ) → AscendingFrom low a → ((n : ℕ) → isIn a n ≡ true → n < mid)
     → low ≤ mid → AscendingFrom mid b → AscendingFrom low (a ++ b)
@@ -118,22 +109,6 @@ notAfter-antisymmetric (x ∷ a) (y ∷ b) (inl p) (inr q) = absurd (omega (arit
 notAfter-antisymmetric (x ∷ a) (y ∷ b) (inr p) (inl q) = absurd (omega (arith, p .0, q .0))
 notAfter-antisymmetric (x ∷ a) (y ∷ b) (inr p) (inr q) = λ i. p .0 i ∷ notAfter-antisymmetric a b (p .1) (q .1) i
 
-pub notAfter-total : (a b : List ℕ) → length a ≡ length b → NotAfter a b ⊎ NotAfter b a
-notAfter-total [] [] e = inl tt
-notAfter-total [] (y ∷ b) e = absurd (omega arith)
-notAfter-total (x ∷ a) [] e = absurd (omega arith)
-notAfter-total (x ∷ a) (y ∷ b) e = pick (compared x y) (notAfter-total a b same)
-  where
-    same : length a ≡ length b
-    same = omega arith
-
-    pick : (x < y) ⊎ ((x ≡ y) ⊎ (y < x)) → NotAfter a b ⊎ NotAfter b a
-        → NotAfter (x ∷ a) (y ∷ b) ⊎ NotAfter (y ∷ b) (x ∷ a)
-    pick (inl p) t = inl (inl (p, same))
-    pick (inr (inl p)) (inl t) = inl (inr (p, t))
-    pick (inr (inl p)) (inr t) = inr (inr (sym p, t))
-    pick (inr (inr p)) t = inr (inl (p, sym same))
-
 pub notAfter-append : (a c b d : List ℕ) → NotAfter a c → NotAfter b d → NotAfter (a ++ b) (c ++ d)
 notAfter-append [] [] b d p q = q
 notAfter-append [] (y ∷ c) b d p q = absurd p
@@ -170,20 +145,11 @@ pub ≼-append : (a c b d : List ℕ) → a ≼ c → b ≼ d → (a ++ b) ≼ (
 ≼-append a c b d (inr p) (inl q) = inl (omega (arith, length-append a b, length-append c d, notAfter-length a c p))
 ≼-append a c b d (inr p) (inr q) = inr (notAfter-append a c b d p q)
 
-pub ≼-cons : (x y : ℕ) (a b : List ℕ) → x ≡ y → a ≼ b → (x ∷ a) ≼ (y ∷ b)
-≼-cons x y a b e (inl p) = inl (omega arith)
-≼-cons x y a b e (inr p) = inr (inr (e, p))
-
 -- ---- an ascending list and those that contain it
 
--- Members of a, all of which come after y, are members of b where they are members of y ∷ b.
-without-head : (y : ℕ) (a b : List ℕ) → ((n : ℕ) → isIn a n ≡ true → y < n)
-    → ((n : ℕ) → isIn a n ≡ true → isIn (y ∷ b) n ≡ true) → (n : ℕ) → isIn a n ≡ true → isIn b n ≡ true
-without-head y a b after part n h = pick (isIn-cases y b n (part n h))
-  where
-    pick : (n ≡ y) ⊎ (isIn b n ≡ true) → isIn b n ≡ true
-    pick (inl e) = absurd (omega (arith, after n h))
-    pick (inr t) = t
+-- The members of a list that ascends from above y are members of b where they are members of y ∷ b.
+without-head : (low y : ℕ) (a b : List ℕ) → AscendingFrom low a → y < low → (n : ℕ) → isIn a n ≡ true → isIn (y ∷ b) n ≡ true → isIn b n ≡ true
+without-head low y a b u after n h = isIn-other y b n (λ e. omega (arith, ascending-later low a n u h))
 
 -- An ascending list comes before, or equals, every ascending list that contains it.
 pub subset-first : (lb : ℕ) (b : List ℕ) (la : ℕ) (a : List ℕ) → AscendingFrom la a → AscendingFrom lb b
@@ -192,20 +158,15 @@ subset-first lb [] la [] u v part = inr tt
 subset-first lb [] la (x ∷ a) u v part = absurd (isIn-none x (part x (isIn-head x a)))
 subset-first lb (y ∷ b) la [] u v part = inl (omega arith)
 subset-first lb (y ∷ b) la (x ∷ a) u v part =
-    pick (isIn-cases y b x (part x (isIn-head x a))) (λ low c w p. subset-first (suc y) b low c w (v .1) p)
-  where
-    pick : (x ≡ y) ⊎ (isIn b x ≡ true)
-        → ((low : ℕ) (c : List ℕ) → AscendingFrom low c → ((n : ℕ) → isIn c n ≡ true → isIn b n ≡ true) → c ≼ b)
-        → (x ∷ a) ≼ (y ∷ b)
-    pick (inl e) rest =
-        ≼-cons x y a b e (rest (suc x) a (u .1)
-        (without-head y a b (λ n t. omega (arith, ascending-later (suc x) a n (u .1) t)) (λ n t. part n (isIn-tail x a n t))))
-    pick (inr t) rest =
-        let later : y < x = ascending-later (suc y) b x (v .1) t in
-        let whole : AscendingFrom x (x ∷ a) = (omega arith, u .1) in
-        let shorter : (x ∷ a) ≼ b =
-        rest x (x ∷ a) whole (without-head y (x ∷ a) b (λ n m. omega (arith, ascending-later x (x ∷ a) n whole m)) part) in
-        inl (omega (arith, ≼-length (x ∷ a) b shorter))
+    ⊎-elim
+    (λ (e : x ≡ y).
+    ⊎-elim (λ p. inl (omega arith)) (λ p. inr (inr (e, p)))
+    (subset-first (suc y) b (suc x) a (u .1) (v .1) (λ n t. without-head (suc x) y a b (u .1) (omega arith) n t (part n (isIn-tail x a n t)))))
+    (λ t.
+    let whole : AscendingFrom x (x ∷ a) = (omega arith, u .1) in
+    let later = without-head x y (x ∷ a) b whole (ascending-later (suc y) b x (v .1) t) in
+    inl (omega (arith, ≼-length (x ∷ a) b (subset-first (suc y) b x (x ∷ a) whole (v .1) (λ n m. later n m (part n m))))))
+    (isIn-cases y b x (part x (isIn-head x a)))
 
 -- Two ascending lists with the same members are equal.
 pub same-members : (la lb : ℕ) (a b : List ℕ) → AscendingFrom la a → AscendingFrom lb b
@@ -225,26 +186,15 @@ pub record Split (low : ℕ) (l : List ℕ) (m : ℕ) : Type 0 where
   pub left-ascending : AscendingFrom low left
   pub right-ascending : AscendingFrom m right
 
-split-none : (low m : ℕ) → Split low [] m
-split-none low m = record {
+split-here : (low m : ℕ) (l : List ℕ) → AscendingFrom m l → Split low l m
+split-here low m l u = record {
   left = [];
-  right = [];
-  whole = refl;
-  below = λ n h. absurd (isIn-none n h);
-  above = λ n h. absurd (isIn-none n h);
-  left-ascending = tt;
-  right-ascending = tt;
-}
-
-split-here : (low x m : ℕ) (l : List ℕ) → AscendingFrom low (x ∷ l) → m ≤ x → Split low (x ∷ l) m
-split-here low x m l u h = record {
-  left = [];
-  right = x ∷ l;
+  right = l;
   whole = refl;
   below = λ n t. absurd (isIn-none n t);
-  above = λ n t. ascending-later m (x ∷ l) n (h, u .1) t;
+  above = λ n t. ascending-later m l n u t;
   left-ascending = tt;
-  right-ascending = (h, u .1);
+  right-ascending = u;
 }
 
 split-later : (low x m : ℕ) (l : List ℕ) → low ≤ x → x < m → Split (suc x) l m → Split low (x ∷ l) m
@@ -252,23 +202,16 @@ split-later low x m l u h s = record {
   left = x ∷ s .left;
   right = s .right;
   whole = λ i. x ∷ s .whole i;
-  below = λ n t. pick n (isIn-cases x (s .left) n t);
+  below = λ n t. ⊎-elim (λ e. omega arith) (s .below n) (isIn-cases x (s .left) n t);
   above = s .above;
   left-ascending = (u, s .left-ascending);
   right-ascending = s .right-ascending;
 }
-  where
-    pick : (n : ℕ) → (n ≡ x) ⊎ (isIn (s .left) n ≡ true) → n < m
-    pick n (inl e) = omega arith
-    pick n (inr t) = s .below n t
 
 pub split-at : (low : ℕ) (l : List ℕ) → AscendingFrom low l → (m : ℕ) → Split low l m
-split-at low [] u m = split-none low m
-split-at low (x ∷ l) u m = pick (decLt x m) (split-at (suc x) l (u .1) m)
-  where
-    pick : Dec (x < m) → Split (suc x) l m → Split low (x ∷ l) m
-    pick (yes h) s = split-later low x m l (u .0) h s
-    pick (no h) s = split-here low x m l u (omega arith)
+split-at low [] u m = split-here low m [] tt
+split-at low (x ∷ l) u m =
+    by-order x m (λ h. split-later low x m l (u .0) h (split-at (suc x) l (u .1) m)) (λ h. split-here low m (x ∷ l) (h, u .1))
 
 pub split-left-in : (low : ℕ) (l : List ℕ) (m : ℕ) (s : Split low l m) (n : ℕ) → isIn (s .left) n ≡ true → isIn l n ≡ true
 split-left-in low l m s n h = subst (λ (w : List ℕ). isIn w n ≡ true) (s .whole) (isIn-left (s .left) (s .right) n h)
@@ -288,40 +231,18 @@ pub first-difference-first : (la lb : ℕ) (a b : List ℕ) (n : ℕ) → Ascend
 first-difference-first la lb [] b n u v e here gone there back = absurd (isIn-none n here)
 first-difference-first la lb (x ∷ a) [] n u v e here gone there back = absurd (omega arith)
 first-difference-first la lb (x ∷ a) (y ∷ b) n u v e here gone there back =
-    pick (compared x y) (first-difference-first (suc x) (suc y) a b n (u .1) (v .1))
-  where
-    same : length a ≡ length b
-    same = omega arith
-
-    x-le : x ≤ n
-    x-le = ascending-later x (x ∷ a) n (omega arith, u .1) here
-
-    in-tail : (z w m : ℕ) (l k : List ℕ) → AscendingFrom (suc z) l → z ≡ w → isIn l m ≡ true → isIn (w ∷ k) m ≡ true → isIn k m ≡ true
-    in-tail z w m l k asc zw t h = cases (isIn-cases w k m h)
-      where
-        cases : (m ≡ w) ⊎ (isIn k m ≡ true) → isIn k m ≡ true
-        cases (inl q) = absurd (omega (arith, ascending-later (suc z) l m asc t))
-        cases (inr q) = q
-
-    later : x ≡ y → isIn a n ≡ true
-    later q = cases (isIn-cases x a n here)
-      where
-        cases : (n ≡ x) ⊎ (isIn a n ≡ true) → isIn a n ≡ true
-        cases (inl p) = absurd (gone (subst (λ k. isIn (k ∷ b) n ≡ true) q (subst (λ k. isIn (x ∷ b) k ≡ true) (sym p) (isIn-head x b))))
-        cases (inr p) = p
-
-    pick : (x < y) ⊎ ((x ≡ y) ⊎ (y < x))
-        → (length a ≡ length b → isIn a n ≡ true → (isIn b n ≡ true → ⊥) → ((m : ℕ) → m < n → isIn a m ≡ true → isIn b m ≡ true)
-        → ((m : ℕ) → m < n → isIn b m ≡ true → isIn a m ≡ true) → NotAfter a b)
-        → NotAfter (x ∷ a) (y ∷ b)
-    pick (inl p) rest = inl (p, same)
-    pick (inr (inl p)) rest =
-        inr (
-          p,
-          rest same (later p) (λ t. gone (isIn-tail y b n t))
-              (λ m h t. in-tail x y m a b (u .1) p t (there m h (isIn-tail x a m t)))
-              (λ m h t. in-tail y x m b a (v .1) (sym p) t (back m h (isIn-tail y b m t))),
-        )
-    pick (inr (inr p)) rest =
-        let before : y < n = omega (arith, x-le) in
-        absurd (omega (arith, ascending-later x (x ∷ a) y (omega arith, u .1) (back y before (isIn-head y b))))
+    let whole : AscendingFrom x (x ∷ a) = (omega arith, u .1) in
+    ⊎-elim (λ p. inl (p, omega arith))
+    (⊎-elim
+    (λ (p : x ≡ y).
+    let later = isIn-other x a n (λ q. gone (subst (λ k. isIn (y ∷ b) k ≡ true) (sym p ∙ sym q) (isIn-head y b))) here in
+    inr (
+      p,
+      first-difference-first (suc x) (suc y) a b n (u .1) (v .1) (omega arith) later (λ t. gone (isIn-tail y b n t))
+          (λ m h t. without-head (suc x) y a b (u .1) (omega arith) m t (there m h (isIn-tail x a m t)))
+          (λ m h t. without-head (suc y) x b a (v .1) (omega arith) m t (back m h (isIn-tail y b m t))),
+    ))
+    (λ (p : y < x).
+    let before : y < n = omega (arith, ascending-later x (x ∷ a) n whole here) in
+    absurd (omega (arith, ascending-later x (x ∷ a) y whole (back y before (isIn-head y b))))))
+    (compared x y)

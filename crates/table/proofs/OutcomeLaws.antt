@@ -1,5 +1,4 @@
 -- Laws of what is given into lent room: 11 where it is too short, else the result; nothing is written by a refusal.
-use mathlib.Core.Bool.{Bool, true, false, cond}
 use mathlib.Core.List.{List, _++_}
 use mathlib.Core.Path.{_≡_, refl, sym, _∙_}
 use Prim.Native.Nat.{ℕ, _<_, _≤_}
@@ -7,6 +6,7 @@ use native.Mathlib.Omega.{arith}
 use borrow.Author.Tests.{lt-ltb, le-ltb, ltb-true, ltb-false}
 use lib.Dec.{ltb}
 use lib.ListN.{length, drop}
+use Rattle.table.proofs.FlagLaws.{cond-by}
 use Rattle.table.specs.Outcomes.{Outcome, refusal, refused, answered, given}
 use Rattle.table.specs.Refusals.{accepted, roomTooShort}
 use Rattle.table.specs.declared.Reply.{Reply}
@@ -34,11 +34,9 @@ module _ (l room : List ℕ) where
   pub given-cases : (C : Outcome → Type 0) → (length room < length l → C (refused roomTooShort room))
       → (length l ≤ length room → C (answered l room)) → C (given l room)
   unfolding given
-  given-cases C short fits = pick (ltb (length room) (length l)) refl
-    where
-      pick : (b : Bool) → ltb (length room) (length l) ≡ b → C (cond {A = Outcome} b (refused roomTooShort room) (answered l room))
-      pick true e = short (ltb-true (length room) (length l) e)
-      pick false e = fits (ltb-false (length room) (length l) e)
+  given-cases C short fits =
+      cond-by C (ltb (length room) (length l))
+      (λ e. short (ltb-true (length room) (length l) e)) (λ e. fits (ltb-false (length room) (length l) e))
 
   -- What is told to have been written lies in the room.
   pub given-within : given l room .reply .length ≤ length room

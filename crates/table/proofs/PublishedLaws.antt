@@ -3,19 +3,20 @@
 use mathlib.Core.Bool.{Bool, true, false, not, _&&_, _||_, cond, and-false}
 use mathlib.Core.List.{List, [], _∷_}
 use mathlib.Core.Logic.{_↔_}
-use mathlib.Core.Path.{_≡_, refl, sym, ap, subst, _∙_}
+use mathlib.Core.Path.{_≡_, refl, sym, ap, _∙_}
 use Prim.Native.Nat.{ℕ, suc, _<_}
 use native.Mathlib.Omega.{arith}
 use borrow.Author.Tests.{eqb-true, ltb-true}
 use lib.Dec.{eqb, ltb}
-use Rattle.table.proofs.FlagLaws.{and-left, and-right, and-both, same-flag}
-use Rattle.table.proofs.OrderLaws.{ascending-weaken, ≼-length, ≼-trans, ≼-antisymmetric, subset-first}
+use Rattle.table.proofs.AnswerLaws.{more-first, more-within}
+use Rattle.table.proofs.FlagLaws.{and-left, and-right, and-both, same-flag, cond-by}
+use Rattle.table.proofs.OrderLaws.{ascending-weaken, subset-first}
 use Rattle.table.proofs.RepairNumbers.{permitted-number, fact-back, kind-back, action-back}
 use Rattle.table.proofs.RunLaws.{SameAt, sameCourse-refl, right-same, valid-right, right-valid}
-use Rattle.table.specs.Answer.{Works, First, Verdict, found, over, hopeless, Within}
+use Rattle.table.specs.Answer.{Works, First, Verdict, Within}
 use Rattle.table.specs.Order.{Ascending, AscendingFrom, isIn, _≼_}
 use Rattle.table.specs.Published.{permitsPublished, permittedPublished, WorksPublished}
-use Rattle.table.specs.Repairs.{dropDelete, addEffect, dropNeed, byKind, numberOf, factOf, kindOf, actionOf, permits, permitted, chosen, repaired}
+use Rattle.table.specs.Repairs.{dropDelete, addEffect, dropNeed, byKind, numberOf, factOf, kindOf, actionOf, repairable, permits, permitted, chosen, repaired}
 use Rattle.table.specs.Sizes.{maxActions, kinds}
 use Rattle.table.specs.Strips.{Cells, Course}
 
@@ -44,31 +45,9 @@ module _ (p : ℕ → Bool) where
   kept-ascending : (low : ℕ) (l : List ℕ) → AscendingFrom low l → AscendingFrom low (kept p l)
   unfolding kept
   kept-ascending low [] u = tt
-  kept-ascending low (x ∷ l) u = pick (p x) (kept-ascending (suc x) l (u .1))
-    where
-      pick : (b : Bool) → AscendingFrom (suc x) (kept p l) → AscendingFrom low (cond b (x ∷ kept p l) (kept p l))
-      pick true rest = (u .0, rest)
-      pick false rest = ascending-weaken low (suc x) (kept p l) (omega (arith, u .0)) rest
-
--- ---- more lists, each of which has one of ours before it: the same verdict
-
-module _ (G H : List ℕ → Type 0) (there : (m : List ℕ) → G m → H m) (before : (m : List ℕ) → H m → (l : List ℕ) × G l × (l ≼ m)) where
-  more-first : (l : List ℕ) → First G l ↔ First H l
-  more-first l = (
-    λ p. record { member = there l (p .member); least = λ m h. let w = before m h in ≼-trans l (w .0) m (p .least (w .0) (w .1)) (w .2) },
-    λ p.
-        let w = before l (p .member) in
-        let same = ≼-antisymmetric (w .0) l (w .2) (p .least (w .0) (there (w .0) (w .1))) in
-        record { member = subst G same (w .1); least = λ m g. p .least m (there m g) },
-  )
-
-  more-within : (k : ℕ) (v : Verdict) → Within G k v ↔ Within H k v
-  more-within k (found l) = (λ p. (more-first l .0 (p .0), p .1), λ p. (more-first l .1 (p .0), p .1))
-  more-within k over = (
-    λ p. ((p .0 .0, there (p .0 .0) (p .0 .1)), λ m h. let w = before m h in omega (arith, p .1 (w .0) (w .1), ≼-length (w .0) m (w .2))),
-    λ p. let w = before (p .0 .0) (p .0 .1) in ((w .0, w .1), λ m g. p .1 m (there m g)),
-  )
-  more-within k hopeless = (λ p m h. let w = before m h in p (w .0) (w .1), λ p m g. p m (there m g))
+  kept-ascending low (x ∷ l) u =
+      let rest = kept-ascending (suc x) l (u .1) in
+      cond-by (AscendingFrom low) (p x) (λ _. (u .0, rest)) (λ _. ascending-weaken low (suc x) (kept p l) (omega (arith, u .0)) rest)
 
 -- ---- what 001 permits beside ours does nothing
 
@@ -81,7 +60,7 @@ module _ (c : Cells) where
   unfolding permits permitsPublished
   permits-published f k a h =
       and-both (inside f a) (byKind k (c .deletes a f) true (c .needs a f))
-      (and-left (inside f a) (byKind k (c .deletes a f) (not (c .adds a f)) (c .needs a f)) h)
+      (and-left (inside f a) (repairable c f k a) h)
       (more (eqb k dropDelete) (eqb k addEffect) (and-right (inside f a) _ h))
     where
       more : (x y : Bool) → cond x (c .deletes a f) (cond y (not (c .adds a f)) (c .needs a f)) ≡ true

@@ -1,11 +1,12 @@
 -- Laws of specs/Refusals: of an ordered list of checks, none fires, the first that fires has its place and its number. Assumes nothing.
 use mathlib.Core.Bool.{Bool, true, false, cond}
 use mathlib.Core.List.{List, [], _∷_}
-use mathlib.Core.Path.{_≡_, refl}
+use mathlib.Core.Path.{_≡_, refl, sym}
 use Prim.Native.Nat.{ℕ, _<_, _≤_}
 use native.Mathlib.Omega.{arith}
 use lib.ListN.{drop}
-use Rattle.table.specs.Refusals.{Check, Refusal, firstOf}
+use Rattle.table.proofs.FlagLaws.{cond-by}
+use Rattle.table.specs.Refusals.{Check, Refusal, accepted, firstOf}
 
 -- ---- none fires
 
@@ -41,20 +42,16 @@ accepts (c ∷ cs) q = rw (q .0) (accepts cs (q .1))
 abbrev pub Past : List Check → ℕ → Type 0
 Past cs n = firstOf cs ≡ firstOf (drop n cs)
 
--- All checks of the list are at one place.
-abbrev pub AllAt : ℕ → List Check → Type 0
-AllAt p [] = Unit {0}
-AllAt p (c ∷ cs) = (c .place ≡ p) × AllAt p cs
+-- Each check of the list is at the place that p gives its number.
+abbrev pub Placed : (ℕ → ℕ) → List Check → Type 0
+Placed p [] = Unit {0}
+Placed p (c ∷ cs) = (c .place ≡ p (c .number)) × Placed p cs
 
-placed : (b : Bool) (n q p : ℕ) (rest : Refusal) → q ≡ p → (0 < rest .number → rest .place ≡ p)
-    → 0 < cond {A = Refusal} b (record { number = n; place = q }) rest .number → cond {A = Refusal} b (record { number = n; place = q }) rest .place ≡ p
-placed true n q p rest e more h = e
-placed false n q p rest e more h = more h
-
-pub first-placed : (p : ℕ) (cs : List Check) → AllAt p cs → 0 < firstOf cs .number → firstOf cs .place ≡ p
+pub first-placed : (p : ℕ → ℕ) (cs : List Check) → p accepted ≡ 0 → Placed p cs → firstOf cs .place ≡ p (firstOf cs .number)
 unfolding firstOf
-first-placed p [] a h = absurd (omega arith)
-first-placed p (c ∷ cs) a h = placed (c .fires) (c .number) (c .place) p (firstOf cs) (a .0) (first-placed p cs (a .1)) h
+first-placed p [] none a = sym none
+first-placed p (c ∷ cs) none a =
+    cond-by {A = Refusal} (λ r. r .place ≡ p (r .number)) (c .fires) (λ _. a .0) (λ _. first-placed p cs none (a .1))
 
 -- Every check's number is at most n.
 abbrev pub Bounded : ℕ → List Check → Type 0
@@ -64,9 +61,4 @@ Bounded n (c ∷ cs) = (c .number ≤ n) × Bounded n cs
 pub firstOf-bounded : (n : ℕ) (cs : List Check) → Bounded n cs → firstOf cs .number ≤ n
 unfolding firstOf
 firstOf-bounded n [] b = omega arith
-firstOf-bounded n (c ∷ cs) b = pick (c .fires) (firstOf-bounded n cs (b .1))
-  where
-    pick : (f : Bool) → firstOf cs .number ≤ n
-        → cond {A = Refusal} f (record { number = c .number; place = c .place }) (firstOf cs) .number ≤ n
-    pick true h = b .0
-    pick false h = h
+firstOf-bounded n (c ∷ cs) b = cond-by {A = Refusal} (λ r. r .number ≤ n) (c .fires) (λ _. b .0) (λ _. firstOf-bounded n cs (b .1))

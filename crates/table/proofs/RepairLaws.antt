@@ -1,15 +1,16 @@
 -- Laws of repairs: a fact is touched only by the repairs whose numbers name it, and more repairs keep a fact right where fewer do.
-use mathlib.Core.Bool.{Bool, true, false, not, _&&_, _||_}
-use mathlib.Core.List.{List}
-use mathlib.Core.Path.{_≡_, refl, sym}
+use mathlib.Core.Bool.{Bool, true, false, not, _&&_, _||_, and-true, and-false, or-false}
+use mathlib.Core.List.{List, []}
+use mathlib.Core.Path.{_≡_, refl, sym, ap, _∙_}
 use Prim.Native.Nat.{ℕ, _<_}
 use native.Mathlib.Omega.{arith}
 use borrow.Author.Tests.{ltb-true}
 use lib.Dec.{ltb}
 use Rattle.table.proofs.FlagLaws.{not-shrinks, or-grows, and-grows, same-flag}
+use Rattle.table.proofs.RepairNumbers.{kind-cases}
 use Rattle.table.proofs.RunLaws.{SameAt, Eases, sameCourse-refl, right-same, right-eases}
 use Rattle.table.specs.Order.{isIn}
-use Rattle.table.specs.Repairs.{dropDelete, addEffect, dropNeed, numberOf, factOf, chosen, repaired}
+use Rattle.table.specs.Repairs.{dropDelete, addEffect, dropNeed, numberOf, factOf, repairable, chosen, repaired}
 use Rattle.table.specs.Sizes.{maxActions, kinds}
 use Rattle.table.specs.Strips.{Cells, Course, Right}
 
@@ -38,6 +39,22 @@ pub right-agree : (c : Cells) (r : Course) (f : ℕ) (R S : ℕ → Bool) → ((
     → Right (repaired c R) r f → Right (repaired c S) r f
 right-agree c r f R S agree =
     right-same f r r (repaired c R) (repaired c S) (repaired-same c r f R S agree) (sameCourse-refl f r)
+
+-- Without repairs the table is as it was.
+chosen-none : (f k a : ℕ) → chosen (isIn []) f k a ≡ false
+unfolding chosen isIn
+chosen-none f k a = and-false (ltb a maxActions)
+
+pub repaired-none : (c : Cells) (r : Course) (f : ℕ) → SameAt f r c (repaired c (isIn []))
+repaired-none c r f = record {
+  needs = λ i h. sym (kept (c .needs (r .step i) f) dropNeed (r .step i));
+  adds = λ i h.
+      sym (ap (λ (b : Bool). c .adds (r .step i) f || b) (chosen-none f addEffect (r .step i)) ∙ or-false (c .adds (r .step i) f));
+  deletes = λ i h. sym (kept (c .deletes (r .step i) f) dropDelete (r .step i));
+}
+  where
+    kept : (b : Bool) (k a : ℕ) → (b && not (chosen (isIn []) f k a)) ≡ b
+    kept b k a = ap (λ (x : Bool). b && not x) (chosen-none f k a) ∙ and-true b
 
 -- ---- working is monotone
 
@@ -71,6 +88,29 @@ repaired-eases c r f R S more = record {
 pub right-more : (c : Cells) (r : Course) (f : ℕ) (R S : ℕ → Bool)
     → ((n : ℕ) → factOf n ≡ f → R n ≡ true → S n ≡ true) → Right (repaired c R) r f → Right (repaired c S) r f
 right-more c r f R S more = right-eases f r (repaired c R) (repaired c S) (repaired-eases c r f R S more)
+
+-- ---- the cell that a repair changes
+
+module _ (c : Cells) (f a : ℕ) where
+  pub repairable-delete : repairable c f dropDelete a ≡ c .deletes a f
+  repairable-delete = refl
+
+  pub repairable-add : repairable c f addEffect a ≡ not (c .adds a f)
+  repairable-add = refl
+
+  pub repairable-need : repairable c f dropNeed a ≡ c .needs a f
+  repairable-need = refl
+
+-- Applying a set of repairs leaves the cells that it does not name.
+pub repaired-repairable : (c : Cells) (R : ℕ → Bool) (f k a : ℕ) → k < kinds
+    → repairable (repaired c R) f k a ≡ (repairable c f k a && not (chosen R f k a))
+repaired-repairable c R f k a =
+    kind-cases (λ j. repairable (repaired c R) f j a ≡ (repairable c f j a && not (chosen R f j a))) refl
+    (not-or (c .adds a f) (chosen R f addEffect a)) refl k
+  where
+    not-or : (x y : Bool) → not (x || y) ≡ (not x && not y)
+    not-or true y = refl
+    not-or false y = refl
 
 -- ---- one fact's part of a list
 

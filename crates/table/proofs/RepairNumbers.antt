@@ -1,14 +1,17 @@
--- The number of a repair and back (document 01, "The model and its run"): both ways round, in range, and told apart; what a permitted
--- number names. Assumes nothing.
-use mathlib.Core.Bool.{Bool, true, false, not, _&&_}
-use mathlib.Core.Path.{_≡_, refl, _∙_}
+-- The number of a repair and back (document 01, "The model and its run"), both ways round; what a permitted number names. Assumes nothing.
+use mathlib.Core.Bool.{Bool, true, false, not, _&&_, cond, Bool·beq}
+use mathlib.Core.Path.{_≡_, refl, ap}
 use Prim.Native.Nat.{ℕ, zero, suc, _≤_, _<_}
 use native.Mathlib.Omega.{arith}
-use lib.Dec.{ltb}
-use borrow.Author.Tests.{ltb-true, lt-ltb, le-ltb}
-use Rattle.table.specs.Sizes.{maxFacts, maxActions, kinds, lastRepair, unused}
+use lib.Dec.{eqb, ltb}
+use lib.ListN.{getD}
+use borrow.Author.Tests.{eqb-true, ltb-true, lt-ltb, le-ltb}
+use Rattle.facts.specs.Sets.{has}
+use Rattle.table.specs.Sizes.{maxFacts, maxActions, kinds, unused}
 use Rattle.table.specs.Strips.{Cells}
-use Rattle.table.specs.Repairs.{dropDelete, addEffect, dropNeed, byKind, numberOf, factOf, kindOf, actionOf, numbered, permits, permitted}
+use Rattle.table.specs.Repairs.{dropDelete, addEffect, dropNeed, byKind, numberOf, factOf, kindOf, actionOf, numbered, repairable, permits, permitted}
+use Rattle.table.specs.Tasks.{cellsOf, maskOf}
+use Rattle.table.specs.declared.Table.{Table}
 use Rattle.table.proofs.FlagLaws.{both, and-both}
 
 -- ---- the number and back
@@ -18,9 +21,6 @@ kindOf-lt n = omega arith
 
 pub actionOf-lt : (n : ℕ) → actionOf n < maxActions
 actionOf-lt n = omega arith
-
-pub factOf-lt : (n : ℕ) → n ≤ lastRepair → factOf n < maxFacts
-factOf-lt n h = omega arith
 
 pub number-back : (n : ℕ) → numberOf (factOf n) (kindOf n) (actionOf n) ≡ n
 number-back n = omega arith
@@ -34,40 +34,22 @@ kind-back f k a hk ha = omega arith
 pub action-back : (f k a : ℕ) → k < kinds → a < maxActions → actionOf (numberOf f k a) ≡ a
 action-back f k a hk ha = omega arith
 
-pub numberOf-lt : (f k a : ℕ) → f < maxFacts → k < kinds → a < maxActions → numberOf f k a ≤ lastRepair
-numberOf-lt f k a hf hk ha = omega arith
-
-pub numberOf-injective : (f k a g j b : ℕ) → k < kinds → a < maxActions → j < kinds → b < maxActions → numberOf f k a ≡ numberOf g j b → (f ≡ g) × (k ≡ j) × (a ≡ b)
-numberOf-injective f k a g j b hk ha hj hb e = omega arith
-
 -- ---- the code's number, which a repair outside has too
 
 pub numbered-inside : (f k a : ℕ) → f < maxFacts → k < kinds → a < maxActions → numbered f k a ≡ numberOf f k a
 unfolding numbered
 numbered-inside f k a hf hk ha = rw (lt-ltb f maxFacts hf, lt-ltb k kinds hk, lt-ltb a maxActions ha)
 
-pub numbered-back : (n : ℕ) → n ≤ lastRepair → numbered (factOf n) (kindOf n) (actionOf n) ≡ n
-numbered-back n h = numbered-inside (factOf n) (kindOf n) (actionOf n) (factOf-lt n h) (kindOf-lt n) (actionOf-lt n) ∙ number-back n
-
 -- ---- what a permitted repair names
 
 pub permits-inside : (c : Cells) (f k a : ℕ) → permits c f k a ≡ true → (f < c .facts) × (a < c .actions)
 unfolding permits
 permits-inside c f k a h =
-    let cell : Bool = byKind k (c .deletes a f) (not (c .adds a f)) (c .needs a f) in
-    let p = both (ltb f (c .facts) && ltb a (c .actions)) cell h .0 in
+    let p = both (ltb f (c .facts) && ltb a (c .actions)) (repairable c f k a) h .0 in
     let q = both (ltb f (c .facts)) (ltb a (c .actions)) p in
     (ltb-true f (c .facts) (q .0), ltb-true a (c .actions) (q .1))
 
-pub permits-cell : (c : Cells) (f k a : ℕ) → permits c f k a ≡ true → byKind k (c .deletes a f) (not (c .adds a f)) (c .needs a f) ≡ true
-unfolding permits
-permits-cell c f k a h = both (ltb f (c .facts) && ltb a (c .actions)) _ h .1
-
-pub inside-permits : (c : Cells) (f k a : ℕ)
-    → f < c .facts
-    → a < c .actions
-    → byKind k (c .deletes a f) (not (c .adds a f)) (c .needs a f) ≡ true
-    → permits c f k a ≡ true
+pub inside-permits : (c : Cells) (f k a : ℕ) → f < c .facts → a < c .actions → repairable c f k a ≡ true → permits c f k a ≡ true
 unfolding permits
 inside-permits c f k a hf ha h = and-both _ _ (and-both _ _ (lt-ltb f (c .facts) hf) (lt-ltb a (c .actions) ha)) h
 
@@ -79,19 +61,43 @@ pub permitted-inside : (c : Cells) (n : ℕ) → permitted c n ≡ true → (fac
 unfolding permitted
 permitted-inside c n h = permits-inside c (factOf n) (kindOf n) (actionOf n) h
 
--- a number past the last names no permitted repair of a task in range
-pub permitted-outside : (c : Cells) (n : ℕ) → c .facts ≤ maxFacts → lastRepair < n → permitted c n ≡ false
-unfolding permitted permits
-permitted-outside c n hc h =
-    let e : ltb (factOf n) (c .facts) ≡ false = le-ltb (factOf n) (c .facts) (omega arith) in
-    rw e
-
+-- `unused` is past every number of a task in range
 pub permitted-unused : (c : Cells) → c .facts ≤ maxFacts → permitted c unused ≡ false
-permitted-unused c hc = permitted-outside c unused hc (omega arith)
+unfolding permitted permits
+permitted-unused c hc = rw (le-ltb (factOf unused) (c .facts) (omega arith))
 
 pub permitted-number : (c : Cells) (f k a : ℕ) → k < kinds → a < maxActions → permitted c (numberOf f k a) ≡ permits c f k a
 unfolding permitted
 permitted-number c f k a hk ha = rw (fact-back f k a hk ha, kind-back f k a hk ha, action-back f k a hk ha)
+
+-- ---- a permitted repair, read off the mask of its kind
+
+-- a delete or a need that is present, an add that is absent
+permits-kind : (d a n f k : ℕ) → not (Bool·beq (has (byKind k d a n) f) (eqb k addEffect)) ≡ byKind k (has d f) (not (has a f)) (has n f)
+permits-kind d a n f k = pick (eqb k dropDelete) (eqb k addEffect) refl refl
+  where
+    present : (b : Bool) → not (Bool·beq b false) ≡ b
+    present true = refl
+    present false = refl
+
+    absent : (b : Bool) → not (Bool·beq b true) ≡ not b
+    absent true = refl
+    absent false = refl
+
+    pick : (p q : Bool) → eqb k dropDelete ≡ p → eqb k addEffect ≡ q
+        → not (Bool·beq (has (cond p d (cond q a n)) f) q) ≡ cond p (has d f) (cond q (not (has a f)) (has n f))
+    pick true true e g = absurd (omega (arith, eqb-true k dropDelete e, eqb-true k addEffect g))
+    pick true false e g = present (has d f)
+    pick false true e g = absent (has a f)
+    pick false false e g = present (has n f)
+
+pub permitted-mask : (t : Table) (n : ℕ)
+    → (ltb (factOf n) (t .facts) && ltb (actionOf n) (t .actions) && not (Bool·beq (has (maskOf t (kindOf n) (actionOf n)) (factOf n)) (eqb (kindOf n) addEffect)))
+    ≡ permitted (cellsOf t) n
+unfolding permitted permits cellsOf
+permitted-mask t n =
+    ap (λ (b : Bool). ltb (factOf n) (t .facts) && ltb (actionOf n) (t .actions) && b)
+    (permits-kind (getD (t .deletes) (actionOf n) 0) (getD (t .adds) (actionOf n) 0) (getD (t .needs) (actionOf n) 0) (factOf n) (kindOf n))
 
 -- ---- the three kinds alike
 

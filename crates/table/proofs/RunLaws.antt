@@ -1,6 +1,6 @@
 -- Laws of a run: it is valid if each fact is right by itself; what a fact's course depends on; and that easing a table keeps a fact right.
 use mathlib.Core.Bool.{Bool, true, not, _&&_, _||_}
-use mathlib.Core.Logic.{_⊎_, inl, inr}
+use mathlib.Core.Logic.{⊎-elim}
 use mathlib.Core.Path.{_≡_, refl, sym, ap, _∙_}
 use Prim.Native.Nat.{ℕ, zero, suc, _+_, _<_, _≤_}
 use native.Mathlib.Nat.{le-refl, le-of-lt}
@@ -23,14 +23,10 @@ pub stateAt-first : (c : Cells) (r : Course) (f : ℕ) → stateAt c r 0 f ≡ r
 unfolding stateAt
 stateAt-first c r f = refl
 
-stateAt-suc : (c : Cells) (r : Course) (i f : ℕ)
-    → stateAt c r (suc i) f ≡ (stateAt c r i f && not (c .deletes (r .step i) f) || c .adds (r .step i) f)
-unfolding stateAt
-stateAt-suc c r i f = refl
-
 pub stateAt-next : (c : Cells) (r : Course) (i f : ℕ)
     → stateAt c r (i + 1) f ≡ (stateAt c r i f && not (c .deletes (r .step i) f) || c .adds (r .step i) f)
-stateAt-next c r i f = ap (λ j. stateAt c r j f) (add-one i) ∙ stateAt-suc c r i f
+unfolding stateAt
+stateAt-next c r i f = rw (add-one i)
 
 -- ---- a fact's course depends on that fact alone
 
@@ -49,13 +45,6 @@ pub record SameCourseAt (f : ℕ) (r s : Course) : Type 0 where
 
 pub sameCourse-refl : (f : ℕ) (r : Course) → SameCourseAt f r r
 sameCourse-refl f r = record { start = refl; goal = refl; count = refl; steps = λ i h. refl }
-
-pub sameAt-sym : (f : ℕ) (r : Course) (c d : Cells) → SameAt f r c d → SameAt f r d c
-sameAt-sym f r c d same = record {
-  needs = λ i h. sym (same .needs i h);
-  adds = λ i h. sym (same .adds i h);
-  deletes = λ i h. sym (same .deletes i h);
-}
 
 pub sameCourse-sym : (f : ℕ) (r s : Course) → SameCourseAt f r s → SameCourseAt f s r
 sameCourse-sym f r s same = record {
@@ -97,13 +86,10 @@ pub record Eases (f : ℕ) (r : Course) (c d : Cells) : Type 0 where
 -- One step: from more, with fewer deletes and more adds, comes more.
 step-grows : (s t e e′ a a′ : Bool) → (s ≡ true → t ≡ true) → (e′ ≡ true → e ≡ true) → (a ≡ true → a′ ≡ true)
     → (s && not e || a) ≡ true → (t && not e′ || a′) ≡ true
-step-grows s t e e′ a a′ more fewer adds h = pick (or-cases (s && not e) a h)
-  where
-    pick : ((s && not e) ≡ true) ⊎ (a ≡ true) → (t && not e′ || a′) ≡ true
-    pick (inl k) =
-        or-left (t && not e′) a′
-        (and-both t (not e′) (more (and-left s (not e) k)) (not-shrinks e′ e fewer (and-right s (not e) k)))
-    pick (inr k) = or-right (t && not e′) a′ (adds k)
+step-grows s t e e′ a a′ more fewer adds h =
+    ⊎-elim
+    (λ k. or-left (t && not e′) a′ (and-both t (not e′) (more (and-left s (not e) k)) (not-shrinks e′ e fewer (and-right s (not e) k))))
+    (λ k. or-right (t && not e′) a′ (adds k)) (or-cases (s && not e) a h)
 
 module _ (f : ℕ) (r : Course) (c d : Cells) (eased : Eases f r c d) where
   pub state-grows : (i : ℕ) → i ≤ r .count → stateAt c r i f ≡ true → stateAt d r i f ≡ true

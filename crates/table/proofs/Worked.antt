@@ -1,19 +1,17 @@
 -- The worked examples hold: each list is computed to work, step by step and fact by fact, or not to. Assumes nothing.
 use mathlib.Core.Bool.{Bool, true, _&&_, false≢true}
 use mathlib.Core.List.{List, [], _∷_}
-use mathlib.Core.Logic.{_⊎_, inl, inr}
+use mathlib.Core.Logic.{inl, inr, ⊎-elim}
 use mathlib.Core.Path.{_≡_, refl, ap, _∙_}
-use Prim.Native.Nat.{ℕ, _<_}
-use native.Mathlib.Decide.{decLt}
+use Prim.Native.Nat.{ℕ}
 use native.Mathlib.Omega.{arith}
-use lib.ListN.{length}
 use Rattle.facts.specs.Sets.{has, within}
 use Rattle.table.proofs.DecidingLaws.{is-right, is-shaped}
-use Rattle.table.proofs.FlagLaws.{both}
+use Rattle.table.proofs.FlagLaws.{both, by-order}
 use Rattle.table.proofs.CountingLaws.{everyBelow-all}
 use Rattle.table.proofs.Formation.{formed-well}
 use Rattle.table.proofs.JoinLaws.{formed-inside, right-outside}
-use Rattle.table.proofs.OrderLaws.{compared, isIn-none, isIn-cases, ≼-length}
+use Rattle.table.proofs.OrderLaws.{isIn-none, isIn-cases, ≼-length}
 use Rattle.table.proofs.RunLaws.{right-valid}
 use Rattle.table.specs.Bench.{listingTask, goalsAtStart, addsAndDeletes, deletesTheGoal, needsLastFact}
 use Rattle.table.specs.Counting.{everyBelow}
@@ -36,22 +34,19 @@ unfolding allPermitted
 all-permitted c [] h n m = absurd (isIn-none n m)
 all-permitted c (x ∷ l) h n m =
     let p = both (permitted c x) (allPermitted c l) h in
-    pick (p .0) (all-permitted c l (p .1) n) (isIn-cases x l n m)
-  where
-    pick : permitted c x ≡ true → (isIn l n ≡ true → permitted c n ≡ true) → (n ≡ x) ⊎ (isIn l n ≡ true) → permitted c n ≡ true
-    pick first later (inl e) = ap (permitted c) e ∙ first
-    pick first later (inr k) = later k
+    ⊎-elim (λ e. ap (permitted c) e ∙ p .0) (all-permitted c l (p .1) n) (isIn-cases x l n m)
 
 -- Every fact is right in the table with the list applied, if those of the task are.
 abbrev rightWith : Task → List ℕ → ℕ → Bool
 rightWith t l = isRight (repaired (cellsOf (t .table)) (isIn l)) (courseOf (t .run))
 
 each-right : (t : Task) (l : List ℕ) → WellFormed t → everyBelow (rightWith t l) (t .table .facts) ≡ true → (f : ℕ)
-    → Dec (f < t .table .facts) → Right (repaired (cellsOf (t .table)) (isIn l)) (courseOf (t .run)) f
+    → Right (repaired (cellsOf (t .table)) (isIn l)) (courseOf (t .run)) f
 unfolding cellsOf
-each-right t l w h f (yes low) =
-    is-right (repaired (cellsOf (t .table)) (isIn l)) (courseOf (t .run)) f (everyBelow-all (rightWith t l) (t .table .facts) h f low)
-each-right t l w h f (no high) = right-outside (cellsOf (t .table)) (courseOf (t .run)) (formed-inside t w) f (omega arith) (isIn l)
+each-right t l w h f =
+    by-order f (t .table .facts)
+    (λ low. is-right (repaired (cellsOf (t .table)) (isIn l)) (courseOf (t .run)) f (everyBelow-all (rightWith t l) (t .table .facts) h f low))
+    (λ high. right-outside (cellsOf (t .table)) (courseOf (t .run)) (formed-inside t w) f high (isIn l))
 
 -- A well-formed task, with arrays of their declared lengths, and a permitted list with which every fact is right.
 unfoldable passes : Task → List ℕ → Bool
@@ -66,24 +61,15 @@ works-by t l up h =
     record {
       permitted = record { ascending = up; each = all-permitted (cellsOf (t .table)) l (s .0) };
       valid = right-valid (repaired (cellsOf (t .table)) (isIn l)) (courseOf (t .run))
-          (λ f. each-right t l (formed-well t (is-shaped t (q .0)) (q .1)) (s .1) f (decLt f (t .table .facts)));
+          (each-right t l (formed-well t (is-shaped t (q .0)) (q .1)) (s .1));
     }
 
 -- ---- the order
 
--- Where the empty list is not among them, none is of length 0, and none comes before the list 0.
-longer : (G : List ℕ → Type 0) → (G [] → ⊥) → (m : List ℕ) → G m → 0 < length m
-longer G none [] g = absurd (none g)
-longer G none (y ∷ m) g = omega arith
-
+-- Where the empty list is not among them, none comes before the list 0.
 zero-first : (G : List ℕ → Type 0) → (G [] → ⊥) → (m : List ℕ) → G m → (0 ∷ []) ≼ m
 zero-first G none [] g = absurd (none g)
-zero-first G none (y ∷ []) g = pick (compared 0 y)
-  where
-    pick : (0 < y) ⊎ ((0 ≡ y) ⊎ (y < 0)) → (0 ∷ []) ≼ (y ∷ [])
-    pick (inl h) = inr (inl (h, refl))
-    pick (inr (inl e)) = inr (inr (e, tt))
-    pick (inr (inr h)) = absurd (omega arith)
+zero-first G none (y ∷ []) g = by-order 0 y (λ h. inr (inl (h, refl))) (λ h. inr (inr (omega arith, tt)))
 zero-first G none (y ∷ z ∷ m) g = inl (omega arith)
 
 later : (32 ∷ []) ≼ (0 ∷ []) → ⊥
@@ -118,7 +104,7 @@ worked =
         works-by deletesTheGoal (32 ∷ []) (omega arith, tt) refl,
         later,
       );
-      row-7-over = ((0 ∷ [], zero), longer (WorksFor deletesTheGoal) none);
+      row-7-over = ((0 ∷ [], zero), λ m w. ≼-length (0 ∷ []) m (zero-first (WorksFor deletesTheGoal) none m w));
       row-8 = (
         works-by needsLastFact (6112 ∷ []) (omega arith, tt) refl,
         λ w. false≢true (w .valid .may-run 0 (omega arith) 63 refl),

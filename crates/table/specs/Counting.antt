@@ -1,12 +1,16 @@
 -- Tests of the numbers below a bound: whether all or some pass, how many do, which is the first; and sums.
 use mathlib.Core.Bool.{Bool, true, false, _&&_, _||_, cond}
 use Prim.Native.Nat.{ℕ, zero, suc, _+_}
-use lib.Dec.{eqb}
+use lib.Dec.{eqb, ltb}
 
 -- Every number below n passes the test.
 unfoldable pub everyBelow : (ℕ → Bool) → ℕ → Bool
 everyBelow p zero = true
 everyBelow p (suc n) = everyBelow p n && p n
+
+-- Every number from `from` on and below n passes it.
+unfoldable pub everyFrom : (ℕ → Bool) → ℕ → ℕ → Bool
+everyFrom p from n = everyBelow (λ i. ltb i from || p i) n
 
 -- Some number below n passes it.
 unfoldable pub someBelow : (ℕ → Bool) → ℕ → Bool

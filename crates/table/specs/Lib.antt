@@ -13,11 +13,12 @@ pub mod Tasks
 pub mod Refusals
 pub mod Outcomes
 pub mod Contracts
--- sizes, counting and lists; one cell set
+-- sizes, counting and lists; one cell set; the passes that test a task
 pub mod Sizes
 pub mod Counting
 pub mod Lists
 pub mod Setting
+pub mod Passes
 -- worked examples: 01's bench sheet
 pub mod Deciding
 pub mod Bench

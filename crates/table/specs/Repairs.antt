@@ -32,11 +32,13 @@ kindOf n = n % perFact / perKind
 abbrev pub actionOf : ℕ → ℕ
 actionOf n = n % perFact % perKind
 
--- "kind 0 .. permitted if f is a delete of a; kind 1 .. if f is not yet an add of a; kind 2 .. if f is a need of a.
--- A number whose a or f is not in the task names no permitted repair."
+-- "kind 0 .. permitted if f is a delete of a; kind 1 .. if f is not yet an add of a; kind 2 .. if f is a need of a."
+abbrev pub repairable : Cells → ℕ → ℕ → ℕ → Bool
+repairable c f k a = byKind k (c .deletes a f) (not (c .adds a f)) (c .needs a f)
+
+-- ".. A number whose a or f is not in the task names no permitted repair."
 unfoldable pub permits : Cells → ℕ → ℕ → ℕ → Bool
-permits c f k a =
-    ltb f (c .facts) && ltb a (c .actions) && byKind k (c .deletes a f) (not (c .adds a f)) (c .needs a f)
+permits c f k a = ltb f (c .facts) && ltb a (c .actions) && repairable c f k a
 
 unfoldable pub permitted : Cells → ℕ → Bool
 permitted c n = permits c (factOf n) (kindOf n) (actionOf n)

@@ -10,5 +10,5 @@ abbrev pub setFact : ℕ → ℕ → Bool → ℕ
 setFact m f present = cond present (joined m (only f)) (removed m (only f))
 
 -- The same in the set of action a of a row of sets.
-abbrev pub setCell : List ℕ → ℕ → ℕ → Bool → List ℕ
-setCell sets a f present = set sets a (setFact (getD sets a 0) f present)
+abbrev pub setIn : List ℕ → ℕ → ℕ → Bool → List ℕ
+setIn sets a f present = set sets a (setFact (getD sets a 0) f present)

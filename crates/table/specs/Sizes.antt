@@ -35,8 +35,12 @@ maxRow = 6
 abbrev pub rowPlaces : ℕ
 rowPlaces = 7
 
+abbrev pub allRows : ℕ
+allRows = 448
+
+-- A session table is its rows.
 abbrev pub sessionPlaces : ℕ
-sessionPlaces = 448
+sessionPlaces = allRows
 
 abbrev pub unused : ℕ
 unused = 65535

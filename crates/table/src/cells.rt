@@ -2,7 +2,7 @@
 // and editing have in common.
 use crate::ACTIONS;
 ghost use mathlib.Core.Path.{_≡_};
-ghost use Rattle.table.specs.Setting.{setFact, setCell};
+ghost use Rattle.table.specs.Setting.{setFact, setIn};
 
 // The set with one fact present or absent; a fact that a mask has no room for changes nothing.
 pub fn set_fact(m: u64, fact: usize, present: bool) -> u64
@@ -17,7 +17,7 @@ pub fn set_fact(m: u64, fact: usize, present: bool) -> u64
 
 // The same in the set of one action; an action that is none changes nothing.
 pub fn set_in(sets: [u64; ACTIONS], action: usize, fact: usize, present: bool) -> [u64; ACTIONS]
-    ensures { λ r. ⌜ r ≡ setCell sets action fact present ⌝ }
+    ensures { λ r. ⌜ r ≡ setIn sets action fact present ⌝ }
 {
     let mut sets = sets;
     if action < ACTIONS {

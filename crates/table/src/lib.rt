@@ -2,12 +2,13 @@
 // them is in specs/.
 pub mod cells;
 pub mod formed;
+pub mod permitted;
 pub mod refusals;
 pub mod repair;
 
 use repair::Repair;
 ghost use mathlib.Core.Path.{_≡_};
-ghost use Rattle.table.specs.Sizes.{maxFacts, maxActions, maxSteps, maxLimit, maxRow, rowPlaces, sessionPlaces, unused, kinds, perFact, perKind, lastRepair};
+ghost use Rattle.table.specs.Sizes.{maxFacts, maxActions, maxSteps, maxLimit, maxRow, rowPlaces, allRows, sessionPlaces, unused, kinds, perFact, perKind, lastRepair};
 ghost use Rattle.table.specs.Outcomes as outcomes;
 ghost use Rattle.table.specs.Repairs.{dropDelete, addEffect, dropNeed};
 
@@ -24,7 +25,10 @@ pub const ROW: usize = 6;
 
 pub const ROW_PLACES: usize = 7;
 
-pub const SESSION_PLACES: usize = 448;
+pub const ALL_ROWS: usize = 448;
+
+// A session table is its rows.
+pub const SESSION_PLACES: usize = ALL_ROWS;
 
 pub const UNUSED: u16 = 65535;
 
@@ -58,6 +62,14 @@ pub struct Reply {
     pub length: usize,
 }
 
+// What a call that gives a task answers: 0, 0 and that task, or the refusal's number and place and the task that a refusal
+// gives (a read: a task of zeros; applying and editing: the task given).
+pub struct TaskReply {
+    pub number: usize,
+    pub place: usize,
+    pub task: Task,
+}
+
 // A refusal at place 0.
 pub fn refusal(number: usize) -> Reply
     ensures { λ r. ⌜ r ≡ outcomes.refusal number ⌝ }
@@ -77,6 +89,7 @@ pub struct Constants {
     pub limit: usize,
     pub row: usize,
     pub row_places: usize,
+    pub all_rows: usize,
     pub session_places: usize,
     pub unused: usize,
     pub kinds: usize,
@@ -98,6 +111,7 @@ pub fn bounds() -> Constants
           limit = maxLimit;
           row = maxRow;
           «row_places» = rowPlaces;
+          «all_rows» = allRows;
           «session_places» = sessionPlaces;
           unused = unused;
           kinds = kinds;
@@ -116,6 +130,7 @@ pub fn bounds() -> Constants
         limit: LIMIT,
         row: ROW,
         row_places: ROW_PLACES,
+        all_rows: ALL_ROWS,
         session_places: SESSION_PLACES,
         unused: UNUSED as usize,
         kinds: Repair::KINDS,

@@ -24,9 +24,13 @@ returns c =
 first-wrong-requires : tie.Need-first-wrong-requires
 first-wrong-requires c κs = search needs
 
+-- the list was looked through after the task was found well formed
+abbrev tested : tie.After-first-wrong → tie.Else1
+tested c = c .before .before .before
+
 returns-2 : tie.Need-returns-2
 returns-2 c =
-    let d = c .before .before .before .before in
+    let d = tested (c .before) in
     let a = d .before .before .before .args in
     let good = d .before .is-formed in
     let wrong = c .before .first-wrong in
@@ -37,7 +41,7 @@ make-all-requires c κs = search needs
 
 returns-3 : tie.Need-returns-3
 returns-3 c =
-    let d = c .before .before .before .before .before in
+    let d = tested (c .before .before) in
     let start = d .before .before .before in
     let a = start .args in
     let good = d .before .is-formed in

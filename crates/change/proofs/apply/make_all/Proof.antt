@@ -5,7 +5,8 @@ use native.Mathlib.Omega.{arith}
 use lib.ListN.{length}
 use borrow.Author.Needs.{needs}
 use denote.Ref.{now}
-use Rattle.change.proofs.KindLaws.{oneByOne-none, oneByOne-more, oneByOne-end}
+use Rattle.table.proofs.CountingLaws.{at-end}
+use Rattle.change.proofs.KindLaws.{oneByOne-none, oneByOne-more}
 use Rattle.change.specs.Kinds.{oneByOne}
 use Rattle.change.proofs.apply.make_all.Statement.{statement}
 use Rattle.change.proofs.apply.make_all.Tie as tie
@@ -46,7 +47,7 @@ loop-again c =
 returns : tie.Need-returns Inv-loop μ-loop
 returns c =
     let a = c .before .before .before .args in
-    oneByOne-end (a .t) (now (a .list)) (c .before .loop .i) (length (now (a .list))) (c .before .loop .inv .1) (omega arith) (c .before .loop .inv .2)
+    at-end (oneByOne (a .t) (now (a .list))) (c .before .loop .i) (length (now (a .list))) (c .before .loop .inv .1) (omega arith) (c .before .loop .inv .2)
 
 pub make-all-spec : {M : Type 1} → statement M
 make-all-spec =

@@ -17,27 +17,28 @@ set-in-requires-3 c κs = search needs
 
 returns : tie.Need-returns
 unfolding kindSet
-returns c = rw (c .before .before .set-in .ensures, eq-eqb (c .before .before .before .before .before .args .kind) dropDelete (c .before .before .before .before .if1 .taken))
+returns c =
+    let set = c .before .before in
+    let then = set .before .before in
+    rw (set .set-in .ensures, eq-eqb (then .before .args .kind) dropDelete (then .if1 .taken))
 
 returns-2 : tie.Need-returns-2
 unfolding kindSet
 returns-2 c =
-    let kind = c .before .before .before .before .before .before .args .kind in
-    rw (
-      ne-eqb kind dropDelete (c .before .before .before .before .before .if1 .left),
-      eq-eqb kind addEffect (c .before .before .before .before .if2 .taken),
-      ← c .before .before .set-in2 .ensures,
-    )
+    let set = c .before .before in
+    let then = set .before .before in
+    let else = then .before in
+    let kind = else .before .args .kind in
+    rw (ne-eqb kind dropDelete (else .if1 .left), eq-eqb kind addEffect (then .if2 .taken), ← set .set-in2 .ensures)
 
 returns-3 : tie.Need-returns-3
 unfolding kindSet
 returns-3 c =
-    let kind = c .before .before .before .before .before .before .args .kind in
-    rw (
-      ne-eqb kind dropDelete (c .before .before .before .before .before .if1 .left),
-      ne-eqb kind addEffect (c .before .before .before .before .if2 .left),
-      ← c .before .before .set-in3 .ensures,
-    )
+    let set = c .before .before in
+    let last = set .before .before in
+    let else = last .before in
+    let kind = else .before .args .kind in
+    rw (ne-eqb kind dropDelete (else .if1 .left), ne-eqb kind addEffect (last .if2 .left), ← set .set-in3 .ensures)
 
 pub set-of-kind-spec : {M : Type 1} → statement M
 set-of-kind-spec =

@@ -1,5 +1,5 @@
 -- `change::editing::set_cell` meets its contract: each arm is its line of the definition, a need, an add or a delete by its kind. Assumes nothing.
-use Rattle.change.specs.Editing.{cellSet}
+use Rattle.change.specs.Editing.{setCell}
 use Rattle.change.specs.Kinds.{kindSet}
 use borrow.Author.Needs.{needs}
 use Rattle.change.proofs.editing.set_cell.Statement.{statement}
@@ -36,23 +36,23 @@ set-fact-requires-2 : tie.Need-set-fact-requires-2
 set-fact-requires-2 c κs = search needs
 
 returns : tie.Need-returns
-unfolding cellSet kindSet
+unfolding setCell kindSet
 returns c = rw (c .set-of-kind .ensures, c .before .before .cell .given .1)
 
 returns-2 : tie.Need-returns-2
-unfolding cellSet kindSet
+unfolding setCell kindSet
 returns-2 c = rw (c .set-of-kind2 .ensures, c .before .before .cell2 .given .1)
 
 returns-3 : tie.Need-returns-3
-unfolding cellSet kindSet
+unfolding setCell kindSet
 returns-3 c = rw (c .set-of-kind3 .ensures, c .before .before .cell3 .given .1)
 
 returns-4 : tie.Need-returns-4
-unfolding cellSet
+unfolding setCell
 returns-4 c = rw (c .before .set-fact .ensures, c .before .before .before .cell4 .given .1)
 
 returns-5 : tie.Need-returns-5
-unfolding cellSet
+unfolding setCell
 returns-5 c = rw (c .before .set-fact2 .ensures, c .before .before .before .cell5 .given .1)
 
 pub set-cell-spec : {M : Type 1} → statement M

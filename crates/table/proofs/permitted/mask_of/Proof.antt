@@ -1,9 +1,9 @@
--- `change::cells::mask_of` meets its contract: each arm reads the array of its kind. Assumes nothing.
+-- `table::permitted::mask_of` meets its contract: each arm reads the array of its kind. Assumes nothing.
 use borrow.Author.Tests.{eq-eqb, ne-eqb}
 use Rattle.table.specs.Repairs.{dropDelete, addEffect}
 use borrow.Author.Needs.{needs}
-use Rattle.change.proofs.cells.mask_of.Statement.{statement}
-use Rattle.change.proofs.cells.mask_of.Tie as tie
+use Rattle.table.proofs.permitted.mask_of.Statement.{statement}
+use Rattle.table.proofs.permitted.mask_of.Tie as tie
 
 mul-result : tie.Need-mul-result
 mul-result c = search needs
