@@ -1,121 +1,50 @@
 -- Laws of sets of one fact's repairs: their lists, one repair more, and which of two comes first.
-use mathlib.Core.Bool.{Bool, true, false, cond, not, _&&_, _||_, false≢true, or-comm}
-use mathlib.Core.List.{List, [], _∷_, _++_}
-use mathlib.Core.Logic.{_⊎_, inl, inr}
+use mathlib.Core.Bool.{Bool, true, false, cond, not, _&&_, _||_, false≢true, true≢false, or-comm}
+use mathlib.Core.List.{List, [], _∷_}
+use mathlib.Core.Logic.{_⊎_, inl, inr, ⊎-elim}
 use mathlib.Core.Path.{_≡_, refl, sym, ap, ap₂, _∙_, subst}
-use Prim.Native.Nat.{ℕ, zero, suc, _+_, _/_, _%_, _<_, _≤_}
+use Prim.Native.Nat.{ℕ, zero, suc, _+_, _*_, _/_, _%_, _<_, _≤_}
 use native.Mathlib.Decide.{decLt}
+use native.Mathlib.Nat.{eq-or-lt-of-le, le-of-suc-le-suc}
 use native.Mathlib.Omega.{arith}
 use borrow.Author.Tests.{eqb-true, eq-eqb, eqb-false, ne-eqb, ltb-true, ltb-false}
 use lib.Dec.{eqb, ltb}
 use lib.ListN.{length, length-append}
-use Rattle.facts.specs.Sets.{has, joined, only}
-use Rattle.facts.proofs.Laws.{has-empty, has-joined, has-only}
+use Rattle.facts.specs.Sets.{has, joined, removed, only}
+use Rattle.facts.proofs.Laws.{has-empty, has-joined, has-removed, has-only}
 use Rattle.table.specs.Lists.{gather, piece}
-use Rattle.table.specs.Order.{isIn, AscendingFrom, Ascending, _≼_}
+use Rattle.table.specs.Order.{isIn, Ascending, _≼_}
 use Rattle.table.specs.Repairs.{byKind, factOf}
 use Rattle.table.specs.Sizes.{perFact, kinds}
 use Rattle.table.proofs.FlagLaws.{or-cases, or-left, or-right, and-left, and-right, and-both, same-flag, is-false}
+use Rattle.table.proofs.GatherLaws.{passing, Passed, passing-from, passing-has, passing-ascending}
 use Rattle.table.proofs.OrderLaws
 use Rattle.table.proofs.RepairNumbers.{kind-cases}
 use Rattle.search.specs.declared.Choice.{Choice}
-use Rattle.search.specs.Choices.{codeKind, codeAction, codeNumber, nothing, inChoice, numbersIn, listOf, Contains}
-use Rattle.search.specs.Trying.{withMask, maskIn, withRepair, bothOf, FirstDifference, Earlier}
+use Rattle.search.specs.Choices.{codeKind, codeAction, codeNumber, nothing, inChoice, numbersIn, listOf, Contains, Misses, Apart}
+use Rattle.search.specs.Trying.{withMask, maskIn, withRepair, bothOf, withoutThose, FirstDifference, Earlier}
 
 -- ---- the list of a set of codes
 
 -- The numbers of fact f whose codes below n are in P, in order: `listOf` over any set and up to any code.
-unfoldable pub codes : (ℕ → Bool) → ℕ → ℕ → List ℕ
-codes P f n = gather (λ code. piece (P code) (codeNumber f code ∷ [])) n
-
--- Where a number of the list comes from.
-pub record Collected (P : ℕ → Bool) (f n m : ℕ) : Type 0 where
-  pub code : ℕ
-  pub below : code < n
-  pub chosen : P code ≡ true
-  pub number : m ≡ codeNumber f code
+abbrev pub codes : (ℕ → Bool) → ℕ → ℕ → List ℕ
+codes P f n = passing P (perFact * f) n
 
 -- What a code adds to the length.
 abbrev pub weight : Bool → ℕ
 weight b = cond b 1 0
 
-module _ (P : ℕ → Bool) (f : ℕ) where
-  codes-next : (n : ℕ) → codes P f (suc n) ≡ codes P f n ++ piece (P n) (codeNumber f n ∷ [])
-  unfolding codes gather
-  codes-next n = refl
-
-  piece-in : (b : Bool) (x m : ℕ) → isIn (piece b (x ∷ [])) m ≡ true → (b ≡ true) × (m ≡ x)
-  piece-in true x m h = (refl, pick (OrderLaws.isIn-cases x [] m h))
-    where
-      pick : (m ≡ x) ⊎ (isIn [] m ≡ true) → m ≡ x
-      pick (inl e) = e
-      pick (inr t) = absurd (OrderLaws.isIn-none m t)
-  piece-in false x m h = absurd (OrderLaws.isIn-none m h)
-
-  pub collected : (n m : ℕ) → isIn (codes P f n) m ≡ true → Collected P f n m
-  unfolding codes gather
-  collected zero m h = absurd (OrderLaws.isIn-none m h)
-  collected (suc n) m h = pick (OrderLaws.isIn-either (codes P f n) (piece (P n) (codeNumber f n ∷ [])) m h) (collected n m)
-    where
-      pick : (isIn (codes P f n) m ≡ true) ⊎ (isIn (piece (P n) (codeNumber f n ∷ [])) m ≡ true)
-          → (isIn (codes P f n) m ≡ true → Collected P f n m) → Collected P f (suc n) m
-      pick (inl t) rest =
-          record {
-            code = rest t .code;
-            below = omega (arith, rest t .below);
-            chosen = rest t .chosen;
-            number = rest t .number;
-          }
-      pick (inr t) rest =
-          record {
-            code = n;
-            below = omega arith;
-            chosen = piece-in (P n) (codeNumber f n) m t .0;
-            number = piece-in (P n) (codeNumber f n) m t .1;
-          }
-
-  codes-before : (n m : ℕ) → isIn (codes P f n) m ≡ true → m < codeNumber f n
-  codes-before n m h = let d = collected n m h in omega (arith, d .below, d .number)
-
-  pub collects : (n code : ℕ) → code < n → P code ≡ true → isIn (codes P f n) (codeNumber f code) ≡ true
-  unfolding codes gather
-  collects zero code h t = absurd (omega arith)
-  collects (suc n) code h t = pick (decLt code n) (λ later. collects n code later t)
-    where
-      last : codeNumber f code ≡ codeNumber f n → P n ≡ true → isIn (piece (P n) (codeNumber f n ∷ [])) (codeNumber f code) ≡ true
-      last e p = rw (p, e) (OrderLaws.isIn-head (codeNumber f n) [])
-
-      pick : Dec (code < n) → (code < n → isIn (codes P f n) (codeNumber f code) ≡ true)
-          → isIn (codes P f n ++ piece (P n) (codeNumber f n ∷ [])) (codeNumber f code) ≡ true
-      pick (yes later) rest =
-          OrderLaws.isIn-left (codes P f n) (piece (P n) (codeNumber f n ∷ [])) (codeNumber f code) (rest later)
-      pick (no here) rest =
-          let e : code ≡ n = omega arith in
-          OrderLaws.isIn-right (codes P f n) (piece (P n) (codeNumber f n ∷ [])) (codeNumber f code)
-          (last (ap (λ c. codeNumber f c) e) (subst (λ c. P c ≡ true) e t))
-
-  piece-ascending : (b : Bool) (x : ℕ) → AscendingFrom x (piece b (x ∷ []))
-  piece-ascending true x = (omega arith, tt)
-  piece-ascending false x = tt
-
-  pub codes-ascending : (n : ℕ) → Ascending (codes P f n)
-  unfolding codes gather
-  codes-ascending zero = tt
-  codes-ascending (suc n) =
-      OrderLaws.ascending-append 0 (codeNumber f n) (codes P f n) (piece (P n) (codeNumber f n ∷ [])) (codes-ascending n) (codes-before n)
-      (omega arith) (piece-ascending (P n) (codeNumber f n))
-
-  pub codes-length : (n : ℕ) → length (codes P f (suc n)) ≡ length (codes P f n) + weight (P n)
-  codes-length n =
-      rw (codes-next n, length-append) (ap (λ k. length (codes P f n) + k) (pick (P n)))
-    where
-      pick : (b : Bool) → length (piece b (codeNumber f n ∷ [])) ≡ weight b
-      pick true = refl
-      pick false = refl
+pub codes-length : (P : ℕ → Bool) (f n : ℕ) → length (codes P f (suc n)) ≡ length (codes P f n) + weight (P n)
+unfolding passing gather
+codes-length P f n = rw length-append (ap (λ k. length (codes P f n) + k) (pick (P n)))
+  where
+    pick : (b : Bool) → length (piece b (codeNumber f n ∷ [])) ≡ weight b
+    pick true = refl
+    pick false = refl
 
 -- The length is that of the set of codes alone.
 pub codes-same-length : (P Q : ℕ → Bool) (f g n : ℕ) → ((c : ℕ) → c < n → P c ≡ Q c) → length (codes P f n) ≡ length (codes Q g n)
-unfolding codes gather
+unfolding passing gather
 codes-same-length P Q f g zero same = refl
 codes-same-length P Q f g (suc n) same =
     let more : weight (P n) ≡ weight (Q n) = ap weight (same n (omega arith)) in
@@ -154,16 +83,16 @@ codes-longer P Q f (suc n) code h out more =
 
 module _ (f : ℕ) (s : Choice) where
   pub listOf-ascending : Ascending (listOf f s)
-  unfolding listOf codes
-  listOf-ascending = codes-ascending (inChoice s) f perFact
+  unfolding listOf passing
+  listOf-ascending = passing-ascending (inChoice s) (perFact * f) perFact
 
-  pub listOf-collected : (n : ℕ) → isIn (listOf f s) n ≡ true → Collected (inChoice s) f perFact n
-  unfolding listOf codes
-  listOf-collected n h = collected (inChoice s) f perFact n h
+  pub listOf-from : (n : ℕ) → isIn (listOf f s) n ≡ true → Passed (inChoice s) (perFact * f) perFact n
+  unfolding listOf passing
+  listOf-from n h = passing-from (inChoice s) (perFact * f) perFact n h
 
   pub listOf-has : (code : ℕ) → code < perFact → inChoice s code ≡ true → isIn (listOf f s) (codeNumber f code) ≡ true
-  unfolding listOf codes
-  listOf-has code h t = collects (inChoice s) f perFact code h t
+  unfolding listOf passing
+  listOf-has code h t = passing-has (inChoice s) (perFact * f) perFact code h t
 
   pub listOf-members : (n : ℕ) → isIn (listOf f s) n ≡ numbersIn f s n
   unfolding numbersIn
@@ -171,10 +100,10 @@ module _ (f : ℕ) (s : Choice) where
     where
       there : isIn (listOf f s) n ≡ true → (eqb (factOf n) f && inChoice s (n % perFact)) ≡ true
       there h =
-          let d = listOf-collected n h in
-          let e : n % perFact ≡ d .code = omega (arith, d .below, d .number) in
+          let d = listOf-from n h in
+          let e : n % perFact ≡ d .index = omega (arith, d .below, d .number) in
           and-both (eqb (factOf n) f) (inChoice s (n % perFact)) (eq-eqb (factOf n) f (omega (arith, d .below, d .number)))
-          (ap (inChoice s) e ∙ d .chosen)
+          (ap (inChoice s) e ∙ d .passes)
 
       back : (eqb (factOf n) f && inChoice s (n % perFact)) ≡ true → isIn (listOf f s) n ≡ true
       back h =
@@ -183,11 +112,22 @@ module _ (f : ℕ) (s : Choice) where
           subst (λ k. isIn (listOf f s) k ≡ true) e
           (listOf-has (n % perFact) (omega arith) (and-right (eqb (factOf n) f) (inChoice s (n % perFact)) h))
 
+  pub listOf-only : (code : ℕ) → isIn (listOf f s) (codeNumber f code) ≡ true → inChoice s code ≡ true
+  listOf-only code h =
+      let d = listOf-from (codeNumber f code) h in
+      let e : code ≡ d .index = omega (arith, d .number) in
+      ap (inChoice s) e ∙ d .passes
+
+  -- Its list has none of a choice that it shares nothing with.
+  pub list-misses : (out : Choice) → Apart s out → Misses (isIn (listOf f s)) f out
+  list-misses out apart code h t =
+      is-false (isIn (listOf f s) (codeNumber f code)) (λ u. true≢false (sym t ∙ apart code h (listOf-only code u)))
+
   -- A set of numbers that contains the choice has every number of its list.
   pub contains-list : (R : ℕ → Bool) → Contains R f s → (n : ℕ) → isIn (listOf f s) n ≡ true → R n ≡ true
   contains-list R part n h =
-      let d = listOf-collected n h in
-      subst (λ k. R k ≡ true) (sym (d .number)) (part (d .code) (d .below) (d .chosen))
+      let d = listOf-from n h in
+      subst (λ k. R k ≡ true) (sym (d .number)) (part (d .index) (d .below) (d .passes))
 
 pub in-nothing : (code : ℕ) → inChoice nothing code ≡ false
 unfolding inChoice nothing
@@ -253,25 +193,37 @@ with-cases s code c hcode hc t = pick (or-cases (eqb c code) (inChoice s c) (sym
     pick (inl e) = inl (eqb-true c code e)
     pick (inr h) = inr h
 
--- The codes of two sets as one: those of either.
-pub in-both : (a b : Choice) (code : ℕ) → inChoice (bothOf a b) code ≡ (inChoice a code || inChoice b code)
-unfolding inChoice bothOf
-in-both a b code = pick (eqb (codeKind code) 0) (eqb (codeKind code) 1)
+-- Two sets put together mask by mask, by whatever each mask has.
+masks-in : (op : ℕ → ℕ → ℕ) (flag : Bool → Bool → Bool) → ((m n x : ℕ) → has (op m n) x ≡ flag (has m x) (has n x)) → (a b : Choice) (code : ℕ)
+    → has (byKind (codeKind code) (op (a .deletes) (b .deletes)) (op (a .adds) (b .adds)) (op (a .needs) (b .needs))) (codeAction code)
+    ≡ flag (inChoice a code) (inChoice b code)
+unfolding inChoice
+masks-in op flag law a b code = pick (eqb (codeKind code) 0) (eqb (codeKind code) 1)
   where
     x : ℕ
     x = codeAction code
 
     pick : (d e : Bool)
-        → has (cond d (joined (a .deletes) (b .deletes)) (cond e (joined (a .adds) (b .adds)) (joined (a .needs) (b .needs)))) x
-        ≡ (has (cond d (a .deletes) (cond e (a .adds) (a .needs))) x || has (cond d (b .deletes) (cond e (b .adds) (b .needs))) x)
-    pick true e = has-joined (a .deletes) (b .deletes) x
-    pick false true = has-joined (a .adds) (b .adds) x
-    pick false false = has-joined (a .needs) (b .needs) x
+        → has (cond d (op (a .deletes) (b .deletes)) (cond e (op (a .adds) (b .adds)) (op (a .needs) (b .needs)))) x
+        ≡ flag (has (cond d (a .deletes) (cond e (a .adds) (a .needs))) x) (has (cond d (b .deletes) (cond e (b .adds) (b .needs))) x)
+    pick true e = law (a .deletes) (b .deletes) x
+    pick false true = law (a .adds) (b .adds) x
+    pick false false = law (a .needs) (b .needs) x
+
+-- The codes of two sets as one: those of either.
+pub in-both : (a b : Choice) (code : ℕ) → inChoice (bothOf a b) code ≡ (inChoice a code || inChoice b code)
+unfolding inChoice bothOf
+in-both = masks-in joined (λ p q. p || q) has-joined
+
+-- The codes of a set without another: its own that are not the other's.
+pub in-without : (a b : Choice) (code : ℕ) → inChoice (withoutThose a b) code ≡ (inChoice a code && not (inChoice b code))
+unfolding inChoice withoutThose
+in-without = masks-in removed (λ p q. p && not q) has-removed
 
 -- A repair that was not in the set makes its list one longer.
 pub with-length : (f : ℕ) (s : Choice) (code : ℕ) → code < perFact → inChoice s code ≡ false
     → length (listOf f (withRepair s code)) ≡ suc (length (listOf f s))
-unfolding listOf codes
+unfolding listOf passing
 with-length f s code h out =
     codes-longer (inChoice s) (inChoice (withRepair s code)) f perFact code h out (λ c hc. in-with s code c h hc)
 
@@ -294,11 +246,31 @@ module _ (R : ℕ → Bool) (f : ℕ) (s : Choice) (code : ℕ) (h : code < perF
 pub nothing-list : (f : ℕ) → listOf f nothing ≡ []
 nothing-list f =
     OrderLaws.same-members 0 0 (listOf f nothing) [] (listOf-ascending f nothing) tt
-    (λ n h. let d = listOf-collected f nothing n h in absurd (false≢true (sym (in-nothing (d .code)) ∙ d .chosen)))
+    (λ n h. let d = listOf-from f nothing n h in absurd (false≢true (sym (in-nothing (d .index)) ∙ d .passes)))
     (λ n h. absurd (OrderLaws.isIn-none n h))
 
 pub nothing-contained : (R : ℕ → Bool) (f : ℕ) → Contains R f nothing
 nothing-contained R f code h t = absurd (false≢true (sym (in-nothing code) ∙ t))
+
+pub nothing-missed : (R : ℕ → Bool) (f : ℕ) → Misses R f nothing
+nothing-missed R f code h t = absurd (false≢true (sym (in-nothing code) ∙ t))
+
+pub nothing-apart : (s : Choice) → Apart s nothing
+nothing-apart s code h t = in-nothing code
+
+-- ---- a code that passes a test
+
+-- One of the codes below n passes, or none does.
+pub find-code : (p : ℕ → Bool) (n : ℕ) → ((i : ℕ) × (i < n) × (p i ≡ true)) ⊎ ((i : ℕ) → i < n → p i ≡ false)
+find-code p zero = inr (λ i l. absurd (omega arith))
+find-code p (suc n) = here (p n) refl (find-code p n)
+  where
+    here : (b : Bool) → p n ≡ b → ((i : ℕ) × (i < n) × (p i ≡ true)) ⊎ ((i : ℕ) → i < n → p i ≡ false)
+        → ((i : ℕ) × (i < suc n) × (p i ≡ true)) ⊎ ((i : ℕ) → i < suc n → p i ≡ false)
+    here true e before = inl (n, omega arith, e)
+    here false e (inl w) = inl (w .0, omega (arith, w .1), w .2)
+    here false e (inr none) =
+        inr (λ i l. ⊎-elim (λ q. subst (λ (m : ℕ). p m ≡ false) (sym q) e) (none i) (eq-or-lt-of-le (le-of-suc-le-suc l)))
 
 -- ---- which of two comes first
 
@@ -306,9 +278,9 @@ nothing-contained R f code h t = absurd (false≢true (sym (in-nothing code) ∙
 agree-below : (f : ℕ) (a b : Choice) (code : ℕ) → ((c : ℕ) → c < code → inChoice a c ≡ inChoice b c)
     → (m : ℕ) → m < codeNumber f code → isIn (listOf f a) m ≡ true → isIn (listOf f b) m ≡ true
 agree-below f a b code same m h t =
-    let d = listOf-collected f a m t in
-    let low : d .code < code = omega (arith, d .number) in
-    subst (λ k. isIn (listOf f b) k ≡ true) (sym (d .number)) (listOf-has f b (d .code) (d .below) (sym (same (d .code) low) ∙ d .chosen))
+    let d = listOf-from f a m t in
+    let low : d .index < code = omega (arith, d .number) in
+    subst (λ k. isIn (listOf f b) k ≡ true) (sym (d .number)) (listOf-has f b (d .index) (d .below) (sym (same (d .index) low) ∙ d .passes))
 
 -- Sets with the same codes have the same list.
 same-list : (f : ℕ) (a b : Choice) → ((c : ℕ) → c < perFact → inChoice a c ≡ inChoice b c) → listOf f a ≡ listOf f b
@@ -317,7 +289,7 @@ same-list f a b same =
     (all b a (λ c h. sym (same c h)))
   where
     all : (a b : Choice) → ((c : ℕ) → c < perFact → inChoice a c ≡ inChoice b c) → (n : ℕ) → isIn (listOf f a) n ≡ true → isIn (listOf f b) n ≡ true
-    all a b same n t = let d = listOf-collected f a n t in agree-below f a b perFact same n (omega (arith, d .below, d .number)) t
+    all a b same n t = let d = listOf-from f a n t in agree-below f a b perFact same n (omega (arith, d .below, d .number)) t
 
 -- a comes before b or has the same repairs: it is a that has the first repair in which they differ.
 pub record Ahead (a b : Choice) : Type 0 where
@@ -374,10 +346,7 @@ pub ahead-first : (f : ℕ) (a b : Choice) → Ahead a b → length (listOf f a)
 ahead-first f a b h e = pick (decLt (h .at) perFact)
   where
     absent : inChoice b (h .at) ≡ false → isIn (listOf f b) (codeNumber f (h .at)) ≡ true → ⊥
-    absent gone t =
-        let d = listOf-collected f b (codeNumber f (h .at)) t in
-        let q : d .code ≡ h .at = omega (arith, d .number) in
-        false≢true (sym gone ∙ ap (inChoice b) (sym q) ∙ d .chosen)
+    absent gone t = false≢true (sym gone ∙ listOf-only f b (h .at) t)
 
     pick : Dec (h .at < perFact) → listOf f a ≼ listOf f b
     pick (yes k) =

@@ -9,16 +9,17 @@ use borrow.Author.Tests.{lt-ltb, eq-eqb, not-true}
 use Rattle.facts.specs.Sets.{has, joined, removed}
 use Rattle.facts.proofs.Laws.{has-joined, has-removed}
 use Rattle.table.specs.Sizes.{maxActions, kinds}
-use Rattle.table.specs.Strips.{stateAt}
+use Rattle.table.specs.Strips.{Right, stateAt}
 use Rattle.table.specs.Repairs.{dropDelete, addEffect, dropNeed, chosen}
-use Rattle.table.proofs.FlagLaws.{and-left, and-right, and-both}
+use Rattle.table.proofs.FlagLaws.{and-left, and-right, and-both, is-false}
 use Rattle.table.proofs.RepairNumbers.{fact-back, kind-back, action-back}
 use Rattle.table.proofs.RunLaws.{stateAt-first, stateAt-next}
 use Rattle.search.specs.declared.Column.{Column}
 use Rattle.search.specs.declared.Choice.{Choice}
+use Rattle.search.specs.declared.narrow.Place.{Place}
 use Rattle.search.specs.Choices.{inChoice, numbersIn, codeOf, codeKind, codeAction}
 use Rattle.search.specs.Columns.{cellsIn, courseIn, ColumnFormed}
-use Rattle.search.specs.Gaps.{NoneBefore, Gap, missing-at, nowhere}
+use Rattle.search.specs.Gaps.{Gap, missing-at, nowhere, Noted, stays, moves}
 use Rattle.search.specs.Trying.{maskIn}
 use Rattle.search.specs.Searching.{cellsWith, NeededAt, by-step, by-goal, Missing}
 
@@ -58,70 +59,101 @@ module _ (col : Column) (s : Choice) (a : ℕ) (ha : a < maxActions) where
 pub step-lt : (col : Column) → ColumnFormed col → (i : ℕ) → i < col .count → getD (col .steps) i 0 < maxActions
 step-lt col formed i h = omega (arith, formed .steps-below i h)
 
--- Before place i: the state of the fact there, and that it is missing nowhere before.
+-- Before place i: the state of the fact there.
 pub record Walked (col : Column) (s : Choice) (present : Bool) (i : ℕ) : Type 0 where
   pub within : i ≤ col .count
   pub state : present ≡ stateAt (cellsWith col s) (courseIn col) i (col .fact)
-  pub clear : NoneBefore col s i
+
+-- The fact is missing at no place before i.
+abbrev pub NoneBefore : Column → Choice → ℕ → Type 0
+NoneBefore col s i = (j : ℕ) → j < i → Missing col s j → ⊥
+
+-- A flag that tells whether the fact is missing at place i.
+pub record Tells (col : Column) (s : Choice) (i : ℕ) (missing : Bool) : Type 0 where
+  pub there : missing ≡ true → Missing col s i
+  pub not-there : missing ≡ false → Missing col s i → ⊥
 
 module _ (col : Column) (s : Choice) where
   pub walked-none : Walked col s (col .start) 0
   unfolding courseIn
-  walked-none = record {
-    within = omega arith;
-    state = sym (stateAt-first (cellsWith col s) (courseIn col) (col .fact));
-    clear = below-none (λ j. Missing col s j → ⊥);
+  walked-none = record { within = omega arith; state = sym (stateAt-first (cellsWith col s) (courseIn col) (col .fact)) }
+
+  pub none-first : NoneBefore col s 0
+  none-first = below-none (λ j. Missing col s j → ⊥)
+
+  pub none-next : (i : ℕ) (missing : Bool) → NoneBefore col s i → Tells col s i missing → missing ≡ false → NoneBefore col s (i + 1)
+  none-next i missing none tells h = below-more (λ j. Missing col s j → ⊥) i none (tells .not-there h)
+
+  -- Missing nowhere, the goal's place included: the fact is right.
+  pub none-right : NoneBefore col s (col .count + 1) → Right (cellsWith col s) (courseIn col) (col .fact)
+  unfolding courseIn
+  none-right none = record {
+    needed = λ j inside n. present j (λ e. none j (omega arith) (record { needed = by-step inside n; absent = e }));
+    wanted = λ g. present (col .count) (λ e. none (col .count) (omega arith) (record { needed = by-goal refl g; absent = e }));
   }
+    where
+      present : (j : ℕ) → (stateAt (cellsWith col s) (courseIn col) j (col .fact) ≡ false → ⊥)
+          → stateAt (cellsWith col s) (courseIn col) j (col .fact) ≡ true
+      present j = not-false-true (stateAt (cellsWith col s) (courseIn col) j (col .fact))
 
   module _ (present : Bool) (i : ℕ) (walked : Walked col s present i) where
-    -- a place after them that is needed while the fact is absent, and one that is not
-    missing-here : NeededAt col s i → not present ≡ true → Missing col s i
-    missing-here needed h = record { needed = needed; absent = sym (walked .state) ∙ not-true present h }
+    -- needed here, as the flag says, while the fact is absent
+    tells : (b : Bool) → (b ≡ true → NeededAt col s i) → (NeededAt col s i → b ≡ true) → Tells col s i (b && not present)
+    tells b needed holds = record {
+      there = λ h. record {
+        needed = needed (and-left b (not present) h);
+        absent = sym (walked .state) ∙ not-true present (and-right b (not present) h);
+      };
+      not-there = λ h m.
+          false≢true (sym h ∙ and-both b (not present) (holds (m .needed)) (ap not (walked .state ∙ m .absent)));
+    }
 
-    not-missing : (b : Bool) → (NeededAt col s i → b ≡ true) → (b && not present) ≡ false → Missing col s i → ⊥
-    not-missing b holds h m =
-        false≢true (sym h ∙ and-both b (not present) (holds (m .needed)) (ap not (walked .state ∙ m .absent)))
-
-    module _ (need : Bool) (same : need ≡ cellsWith col s .needs (courseIn col .step i) (col .fact)) (inside : i < col .count) where
-      pub walked-gap : (need && not present) ≡ true → Gap col s i
-      walked-gap h =
-          missing-at (walked .within)
-          (missing-here (by-step inside (sym same ∙ and-left need (not present) h)) (and-right need (not present) h)) (walked .clear)
-
-      needed-here : NeededAt col s i → need ≡ true
-      needed-here (by-step _ n) = same ∙ n
-      needed-here (by-goal e _) = absurd (omega arith)
+    module _ (inside : i < col .count) where
+      pub tells-step : (need : Bool) → need ≡ cellsWith col s .needs (courseIn col .step i) (col .fact) → Tells col s i (need && not present)
+      tells-step need same = tells need (λ h. by-step inside (sym same ∙ h)) back
+        where
+          back : NeededAt col s i → need ≡ true
+          back (by-step _ n) = same ∙ n
+          back (by-goal e _) = absurd (omega arith)
 
       pub walked-more : (delete add : Bool) → delete ≡ cellsWith col s .deletes (courseIn col .step i) (col .fact)
-          → add ≡ cellsWith col s .adds (courseIn col .step i) (col .fact)
-          → (need && not present) ≡ false → Walked col s (present && not delete || add) (i + 1)
-      walked-more delete add d a h = record {
+          → add ≡ cellsWith col s .adds (courseIn col .step i) (col .fact) → Walked col s (present && not delete || add) (i + 1)
+      walked-more delete add d a = record {
         within = omega arith;
         state = rw (walked .state, d, a) (sym (stateAt-next (cellsWith col s) (courseIn col) i (col .fact)));
-        clear = below-more (λ j. Missing col s j → ⊥) i (walked .clear) (not-missing need needed-here h);
       }
 
-    module _ (last : i ≡ col .count) where
-      pub walked-goal : (col .goal && not present) ≡ true → Gap col s (col .count)
-      walked-goal h =
-          subst (Gap col s) last
-          (missing-at (walked .within)
-          (missing-here (by-goal last (and-left (col .goal) (not present) h)) (and-right (col .goal) (not present) h)) (walked .clear))
+    pub tells-goal : i ≡ col .count → Tells col s i (col .goal && not present)
+    tells-goal last = tells (col .goal) (by-goal last) back
+      where
+        back : NeededAt col s i → col .goal ≡ true
+        back (by-step h _) = absurd (omega arith)
+        back (by-goal _ g) = g
 
-      wanted-here : NeededAt col s i → col .goal ≡ true
-      wanted-here (by-step h _) = absurd (omega arith)
-      wanted-here (by-goal _ g) = g
+-- ---- the narrowest place so far
 
-      pub walked-end : (col .goal && not present) ≡ false → Gap col s (col .count + 1)
-      unfolding courseIn
-      walked-end h = nowhere refl (record {
-        needed = λ j inside n. not-false-here j (λ e. clear j (omega arith) (record { needed = by-step inside n; absent = e }));
-        wanted = λ g. not-false-here (col .count) (λ e. clear (col .count) (omega arith) (record { needed = by-goal refl g; absent = e }));
-      })
-        where
-          clear : NoneBefore col s (i + 1)
-          clear = below-more (λ j. Missing col s j → ⊥) i (walked .clear) (not-missing (col .goal) wanted-here h)
+-- None before place i, and then more than one repair counts as left; or one where the fact is missing.
+pub data PlaceSo (col : Column) (s : Choice) (best : Place) (i : ℕ) : Type 0 where
+  no-place : best .at ≡ col .count + 1 → 1 < best .left → NoneBefore col s i → PlaceSo col s best i
+  a-place : best .at ≤ col .count → Missing col s (best .at) → PlaceSo col s best i
 
-          not-false-here : (j : ℕ) → (stateAt (cellsWith col s) (courseIn col) j (col .fact) ≡ false → ⊥)
-              → stateAt (cellsWith col s) (courseIn col) j (col .fact) ≡ true
-          not-false-here j = not-false-true (stateAt (cellsWith col s) (courseIn col) j (col .fact))
+module _ (col : Column) (s : Choice) where
+  pub place-next : (best r : Place) (i : ℕ) (missing : Bool) → i ≤ col .count → Tells col s i missing → PlaceSo col s best i
+      → Noted (col .count) best i missing r → PlaceSo col s r (i + 1)
+  place-next best r i missing within tells so (moves h e) =
+      let at : r .at ≡ i = e in
+      a-place (omega arith) (subst (Missing col s) (sym at) (tells .there h))
+  place-next best r i missing within tells (a-place low m) (stays e chosen) =
+      subst (λ p. PlaceSo col s p (i + 1)) (sym e) (a-place low m)
+  place-next best r i missing within tells (no-place none more clear) (stays e chosen) =
+      subst (λ p. PlaceSo col s p (i + 1)) (sym e)
+      (no-place none more (none-next col s i missing clear tells (is-false missing (λ h. absurd (omega (arith, chosen h))))))
+
+  -- Few repairs left: there is a place. All places passed: there is one, or the fact is right.
+  pub place-few : (best : Place) (i : ℕ) → PlaceSo col s best i → best .left ≤ 1 → Gap col s (best .at)
+  place-few best i (no-place none more clear) few = absurd (omega arith)
+  place-few best i (a-place low m) few = missing-at low m
+
+  pub place-end : (best : Place) (i : ℕ) → i ≡ col .count + 1 → PlaceSo col s best i → Gap col s (best .at)
+  place-end best i all (no-place none more clear) = nowhere none (none-right col s (subst (NoneBefore col s) all clear))
+  place-end best i all (a-place low m) = missing-at low m

@@ -1,6 +1,7 @@
 -- Laws of a conflict (document 01, "A conflict"; source document 000): what looking back and gathering actions keep while
 -- they run, and that the repairs so found are a conflict of the candidate. Assumes nothing.
 use mathlib.Core.Bool.{Bool, true, false, not, _&&_, _||_, and-false, false≢true, true≢false}
+use mathlib.Core.List.{List}
 use mathlib.Core.Logic.{_⊎_, inl, inr, ⊎-elim}
 use mathlib.Core.Path.{_≡_, refl, sym, ap, subst, _∙_}
 use Prim.Native.Nat.{ℕ, zero, suc, _+_, _-_, _<_, _≤_, min, max}
@@ -8,22 +9,25 @@ use native.Mathlib.Nat.{eq-or-lt-of-le, le-of-suc-le-suc, lt-of-lt-of-le}
 use native.Mathlib.Numerals.{add-one}
 use native.Mathlib.Omega.{arith}
 use lib.Dec.{eqb, ltb}
-use borrow.Author.Tests.{eq-eqb, eqb-true, lt-ltb, not-true}
+use borrow.Author.Tests.{eq-eqb, eqb-true, not-true}
 use Rattle.facts.specs.Sets.{width, has, joined, only}
 use Rattle.facts.proofs.Laws.{has-empty, has-joined, has-only}
 use Rattle.table.specs.Sizes.{maxActions, kinds, perFact}
 use Rattle.table.specs.Strips.{Cells, Course, stateAt, Right}
-use Rattle.table.specs.Repairs.{byKind, numberOf, dropDelete, addEffect, dropNeed, chosen, repaired, permits}
+use Rattle.table.specs.Order.{isIn}
+use Rattle.table.specs.Repairs.{byKind, numberOf, dropDelete, addEffect, dropNeed, repairable, chosen, repaired, permits}
 use Rattle.table.proofs.FlagLaws.{or-cases, or-left, or-right, and-left, and-right, and-both, is-false, by-order}
-use Rattle.table.proofs.RepairNumbers.{permitted-number}
+use Rattle.table.proofs.RepairNumbers.{inside-permits, permitted-number}
+use Rattle.table.proofs.RepairLaws.{repairable-delete, repairable-add, repairable-need, repaired-repairable}
 use Rattle.table.proofs.RunLaws.{stateAt-first, stateAt-next}
 use Rattle.search.specs.declared.Column.{Column}
 use Rattle.search.specs.declared.Choice.{Choice}
-use Rattle.search.specs.Choices.{inChoice, codeOf, codeKind, codeAction, codeNumber, numbersIn}
-use Rattle.search.specs.Columns.{cellsIn, courseIn, ColumnFormed}
+use Rattle.search.specs.Choices.{inChoice, codeOf, codeKind, codeAction, codeNumber, numbersIn, Apart}
+use Rattle.search.specs.Columns.{cellsIn, courseIn, KeepsIn, ColumnFormed}
 use Rattle.search.specs.Gaps.{LastDelete, Named, need-at, that-delete, add-between, ConflictAt, ActionsOf}
 use Rattle.search.specs.Searching.{cellsWith, NeededAt, by-step, by-goal, Missing, Allowed}
 use Rattle.search.specs.Trying.{maskIn}
+use Rattle.search.proofs.ChoiceLaws.{find-code, nothing-apart}
 use Rattle.search.proofs.ColumnLaws.{chosen-has, inChoice-has}
 
 -- ---- looking back
@@ -115,36 +119,6 @@ module _ (c : Cells) (r : Course) (f : ℕ) where
       subst (λ (n : ℕ). stateAt c r n f ≡ b) (add-one j) (keep j less (omega arith) before))
       (eq-or-lt-of-le low)
 
--- ---- what a repair of each kind would change
-
--- The cell is one that a repair of kind k changes.
-abbrev repairable : Cells → ℕ → ℕ → ℕ → Bool
-repairable c f k a = byKind k (c .deletes a f) (not (c .adds a f)) (c .needs a f)
-
-not-or : (a b : Bool) → not (a || b) ≡ (not a && not b)
-not-or true b = refl
-not-or false b = refl
-
--- Applying a set of repairs leaves the cells that it does not name.
-repaired-repairable : (c : Cells) (R : ℕ → Bool) (f k a : ℕ) → k < kinds
-    → repairable (repaired c R) f k a ≡ (repairable c f k a && not (chosen R f k a))
-repaired-repairable c R f zero a h = refl
-repaired-repairable c R f (suc zero) a h = not-or (c .adds a f) (chosen R f addEffect a)
-repaired-repairable c R f (suc (suc zero)) a h = refl
-repaired-repairable c R f (suc (suc (suc k))) a h = absurd (omega arith)
-
--- A set of repairs has one of some codes, or none.
-find-code : (p : ℕ → Bool) (n : ℕ) → ((i : ℕ) × (i < n) × (p i ≡ true)) ⊎ ((i : ℕ) → i < n → p i ≡ false)
-find-code p zero = inr (λ i l. absurd (omega arith))
-find-code p (suc n) = here (p n) refl (find-code p n)
-  where
-    here : (b : Bool) → p n ≡ b → ((i : ℕ) × (i < n) × (p i ≡ true)) ⊎ ((i : ℕ) → i < n → p i ≡ false)
-        → ((i : ℕ) × (i < suc n) × (p i ≡ true)) ⊎ ((i : ℕ) → i < suc n → p i ≡ false)
-    here true e before = inl (n, omega arith, e)
-    here false e (inl w) = inl (w .0, omega (arith, w .1), w .2)
-    here false e (inr none) =
-        inr (λ i l. ⊎-elim (λ q. subst (λ (m : ℕ). p m ≡ false) (sym q) e) (none i) (eq-or-lt-of-le (le-of-suc-le-suc l)))
-
 -- ---- the conflict
 
 -- Where the conflict's repairs of kind k stand: the deleting step, the steps from it up to j - 1, the step at j.
@@ -181,9 +155,12 @@ module _ (col : Column) (s : Choice) (j i : ℕ) (missing : Missing col s j) (ba
       → repairable (cellsWith col s) (col .fact) k (courseIn col .step p) ≡ true
   still zero p h low high =
       let e : i - 1 ≡ p = omega arith in
-      subst (λ (n : ℕ). cellsWith col s .deletes (courseIn col .step n) (col .fact) ≡ true) e (back .deleted (omega arith))
-  still (suc zero) p h low high = ap not (no-adds p low high)
-  still (suc (suc zero)) p h low high = need (missing .needed)
+      repairable-delete (cellsWith col s) (col .fact) (courseIn col .step p)
+      ∙ subst (λ (n : ℕ). cellsWith col s .deletes (courseIn col .step n) (col .fact) ≡ true) e (back .deleted (omega arith))
+  still (suc zero) p h low high =
+      repairable-add (cellsWith col s) (col .fact) (courseIn col .step p) ∙ ap not (no-adds p low high)
+  still (suc (suc zero)) p h low high =
+      repairable-need (cellsWith col s) (col .fact) (courseIn col .step p) ∙ need (missing .needed)
     where
       need : NeededAt col s j → cellsWith col s .needs (courseIn col .step p) (col .fact) ≡ true
       need (by-step inside n) =
@@ -205,6 +182,14 @@ module _ (col : Column) (s : Choice) (j i : ℕ) (formed : ColumnFormed col) (mi
     place-action : courseIn col .step p < col .actions
     unfolding courseIn
     place-action = formed .steps-below p (lt-of-lt-of-le high (high-within k hk))
+
+    own : col .fact < cellsIn col .facts
+    unfolding cellsIn
+    own = omega arith
+
+    place-inside : courseIn col .step p < cellsIn col .actions
+    unfolding cellsIn
+    place-inside = place-action
 
     place-low : courseIn col .step p < maxActions
     place-low = omega (arith, place-action, formed .actions-high)
@@ -230,9 +215,7 @@ module _ (col : Column) (s : Choice) (j i : ℕ) (formed : ColumnFormed col) (mi
     place-offered = inChoice-has q k (courseIn col .step p) place-low ∙ parts k hk .each p low high
 
     place-permitted : permits (cellsIn col) (col .fact) k (courseIn col .step p) ≡ true
-    unfolding permits cellsIn
-    place-permitted =
-        rw (lt-ltb (col .fact) (suc (col .fact)) (omega arith), lt-ltb (courseIn col .step p) (col .actions) place-action) place-repairable
+    place-permitted = inside-permits (cellsIn col) (col .fact) k (courseIn col .step p) own place-inside place-repairable
 
   -- the place of each of the conflict's repairs
   place-of : (code : ℕ) → code < perFact → inChoice q code ≡ true → (p : ℕ) × (lowPlace i j (codeKind code) ≤ p)
@@ -240,7 +223,7 @@ module _ (col : Column) (s : Choice) (j i : ℕ) (formed : ColumnFormed col) (mi
   unfolding inChoice
   place-of code h hq = parts (codeKind code) (omega arith) .only (codeAction code) hq
 
-  conflict-fresh : (code : ℕ) → code < perFact → inChoice q code ≡ true → inChoice s code ≡ false
+  conflict-fresh : Apart q s
   unfolding inChoice
   conflict-fresh code h hq =
       let w = place-of code h hq in
@@ -274,7 +257,8 @@ module _ (col : Column) (s : Choice) (j i : ℕ) (formed : ColumnFormed col) (mi
           ∙ and-both _ _ (place-repairable k p hk low high) (ap not unrepaired)
 
     not-added : (m : ℕ) → i - 1 ≤ m → m < j → repaired (cellsIn col) R .adds (courseIn col .step m) (col .fact) ≡ false
-    not-added m low high = not-true _ (under addEffect m (omega arith) low high)
+    not-added m low high =
+        not-true _ (sym (repairable-add (repaired (cellsIn col) R) (col .fact) (courseIn col .step m)) ∙ under addEffect m (omega arith) low high)
 
     absent-first : (m : ℕ) → i ≡ m → stateAt (repaired (cellsIn col) R) (courseIn col) m (col .fact) ≡ false
     absent-first zero e =
@@ -284,7 +268,8 @@ module _ (col : Column) (s : Choice) (j i : ℕ) (formed : ColumnFormed col) (mi
     absent-first (suc m) e =
         subst (λ (n : ℕ). stateAt (repaired (cellsIn col) R) (courseIn col) n (col .fact) ≡ false) (add-one m)
         (next-deleted (repaired (cellsIn col) R) (courseIn col) (col .fact) m
-        (under dropDelete m (omega arith) (omega arith) (omega arith)) (not-added m (omega arith) (omega (arith, back .within))))
+        (sym (repairable-delete (repaired (cellsIn col) R) (col .fact) (courseIn col .step m)) ∙ under dropDelete m (omega arith) (omega arith) (omega arith))
+        (not-added m (omega arith) (omega (arith, back .within))))
 
     absent-there : stateAt (repaired (cellsIn col) R) (courseIn col) j (col .fact) ≡ false
     absent-there =
@@ -294,21 +279,27 @@ module _ (col : Column) (s : Choice) (j i : ℕ) (formed : ColumnFormed col) (mi
     not-right : Right (repaired (cellsIn col) R) (courseIn col) (col .fact) → NeededAt col s j → ⊥
     unfolding courseIn
     not-right right (by-step h n) =
-        true≢false (sym (right .needed j h (under dropNeed j (omega arith) (omega arith) (omega arith))) ∙ absent-there)
+        true≢false
+        (sym (right .needed j h
+        (sym (repairable-need (repaired (cellsIn col) R) (col .fact) (courseIn col .step j)) ∙ under dropNeed j (omega arith) (omega arith) (omega arith)))
+        ∙ absent-there)
     not-right right (by-goal e g) =
         true≢false
         (sym (right .wanted g) ∙ subst (λ (n : ℕ). stateAt (repaired (cellsIn col) R) (courseIn col) n (col .fact) ≡ false) e absent-there)
 
-  -- Every set of repairs that keeps the fact right has one of the conflict's, whether or not it contains the candidate.
-  pub conflict-meets : (R : ℕ → Bool) → Right (repaired (cellsIn col) R) (courseIn col) (col .fact)
-      → (code : ℕ) × (code < perFact) × (inChoice q code ≡ true) × (R (codeNumber (col .fact) code) ≡ true)
-  conflict-meets R right = pick (find-code (λ code. inChoice q code && R (codeNumber (col .fact) code)) perFact)
+  -- Every list that keeps the fact right has one of the conflict's, whether or not it contains the candidate.
+  conflict-meets : (l : List ℕ) → KeepsIn col l
+      → (code : ℕ) × (code < perFact) × (inChoice q code ≡ true) × (isIn l (codeNumber (col .fact) code) ≡ true)
+  conflict-meets l keeps = pick (find-code (λ code. inChoice q code && R (codeNumber (col .fact) code)) perFact)
     where
+      R : ℕ → Bool
+      R = isIn l
+
       pick : ((code : ℕ) × (code < perFact) × ((inChoice q code && R (codeNumber (col .fact) code)) ≡ true))
           ⊎ ((code : ℕ) → code < perFact → (inChoice q code && R (codeNumber (col .fact) code)) ≡ false)
           → (code : ℕ) × (code < perFact) × (inChoice q code ≡ true) × (R (codeNumber (col .fact) code) ≡ true)
       pick (inl w) = (w .0, w .1, and-left _ _ (w .2), and-right (inChoice q (w .0)) _ (w .2))
-      pick (inr none) = absurd (not-right R none right (missing .needed))
+      pick (inr none) = absurd (not-right R none (keeps .right) (missing .needed))
 
   -- The conflict's repairs are those that 01 names.
   offered-named : (code : ℕ) → code < perFact → inChoice q code ≡ true → Named col s j code
@@ -341,7 +332,12 @@ module _ (col : Column) (s : Choice) (j i : ℕ) (formed : ColumnFormed col) (mi
   is-conflict : ConflictAt col s j q
   is-conflict = record {
     named = λ code h. (offered-named code h, named-offered code);
-    conflicts = record { meets = conflict-meets; fresh = conflict-fresh; allowed = conflict-allowed };
+    conflicts = record {
+      meets = λ l keeps _. conflict-meets l keeps;
+      fresh = conflict-fresh;
+      apart = nothing-apart q;
+      allowed = conflict-allowed;
+    };
   }
 
 -- The sets that the code gathers make a conflict.

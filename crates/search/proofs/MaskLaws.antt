@@ -19,6 +19,7 @@ use Rattle.table.specs.Sizes.{perKind, kinds}
 use Rattle.search.specs.declared.Choice.{Choice}
 use Rattle.search.specs.Choices.{codeKind, codeAction, inChoice, listOf}
 use Rattle.search.specs.Trying.{maskIn, NextAction, NextIn, FirstUnshared, FirstDifference}
+use Rattle.table.proofs.GatherLaws.{passing}
 use Rattle.search.proofs.ChoiceLaws.{weight, codes, codes-length}
 
 -- The repair of a code, in its kind's mask.
@@ -92,7 +93,7 @@ kind-length s f k (suc n) h =
 
 pub choice-length : (f : ℕ) (s : Choice)
     → length (listOf f s) ≡ sumBits perKind (s .deletes) + sumBits perKind (s .adds) + sumBits perKind (s .needs)
-unfolding listOf codes gather
+unfolding listOf passing gather
 choice-length f s =
     omega (arith, kind-length s f dropDelete perKind (omega arith), kind-length s f addEffect perKind (omega arith), kind-length s f dropNeed perKind (omega arith))
 

@@ -14,7 +14,7 @@ use Rattle.table.specs.Sizes.{maxFacts, maxRow, perFact, unused}
 use Rattle.table.specs.Tasks.{WellFormed, KeepsFor}
 use Rattle.table.specs.declared.Task.{Task}
 use Rattle.table.proofs.AnswerLaws.{first-same}
-use Rattle.table.proofs.GatherLaws.{gather-none, gather-part, gather-step}
+use Rattle.table.proofs.GatherLaws.{gather-none, gather-part, gather-step, passing}
 use Rattle.table.proofs.JoinLaws.{keepsFor-outside}
 use Rattle.table.proofs.RepairNumbers.{numbered-inside}
 use Rattle.search.specs.Choices.{codeKind, codeAction, inChoice, listOf, codeNumber}
@@ -52,16 +52,16 @@ module _ (f : ℕ) (s : Choice) where
   rowBelow i = rowOf (found (codes (inChoice s) f i))
 
   codes-chosen : (i : ℕ) → inChoice s i ≡ true → codes (inChoice s) f (i + 1) ≡ codes (inChoice s) f i ++ (codeNumber f i ∷ [])
-  unfolding codes
+  unfolding passing
   codes-chosen i chosen = gather-step (λ code. piece (inChoice s code) (codeNumber f code ∷ [])) i ∙ rw chosen
 
   bare-below : (row : List ℕ) → row ≡ (0 ∷ replicate maxRow unused) → row ≡ rowBelow 0
-  unfolding rowOf codes gather
+  unfolding rowOf passing gather
   bare-below row e = e
 
   -- No chosen code between: the same row.
   passed : (i k : ℕ) → NextIn s i k → rowBelow k ≡ rowBelow i
-  unfolding codes
+  unfolding passing
   passed i k next = ap (λ (l : List ℕ). rowOf (found l)) none
     where
       none : codes (inChoice s) f k ≡ codes (inChoice s) f i
@@ -80,7 +80,7 @@ module _ (f : ℕ) (s : Choice) where
 
   pub below-fits : (i : ℕ) (row : List ℕ) → length (listOf f s) ≤ maxRow → i < perFact → row ≡ rowBelow i → inChoice s i ≡ true
       → getD row 0 0 < maxRow
-  unfolding listOf codes
+  unfolding listOf passing
   below-fits i row short h e chosen =
       let one : weight (inChoice s i) ≡ 1 = ap weight chosen in
       let all : length (codes (inChoice s) f perFact) ≤ maxRow = short in
@@ -101,7 +101,7 @@ module _ (f : ℕ) (s : Choice) where
       one-more = ap (λ (l : List ℕ). rowOf (found l)) (sym (codes-chosen i chosen))
 
   pub below-end : (i : ℕ) (row : List ℕ) → i ≡ perFact → row ≡ rowBelow i → row ≡ rowOf (found (listOf f s))
-  unfolding listOf codes
+  unfolding listOf passing
   below-end i row all e = e ∙ ap (λ (n : ℕ). rowOf (found (codes (inChoice s) f n))) all
 
 -- ---- which row is right

@@ -11,15 +11,16 @@ use lib.ListN.{length, getD, List·getD-eq-default}
 use borrow.Author.Tests.{lt-ltb, le-ltb, eq-eqb, ne-eqb}
 use Rattle.facts.specs.Sets.{has, joined, shared, removed, below, only, width}
 use Rattle.facts.proofs.Laws.{has-empty, has-with, has-shared, has-removed, has-below}
-use Rattle.table.specs.Repairs.{byKind, dropDelete, addEffect, factOf, kindOf, actionOf, permits, permitted, repaired}
+use Rattle.table.specs.Repairs.{byKind, dropDelete, addEffect, factOf, kindOf, actionOf, permits, permitted}
 use Rattle.table.specs.Sizes.{maxActions, perFact}
 use Rattle.table.specs.Order.{isIn}
-use Rattle.table.specs.Strips.{Cells, Course, Right}
+use Rattle.table.specs.Strips.{Cells, Right}
 use Rattle.table.specs.Tasks.{WellFormed, cellsOf, courseOf, KeepsFor}
 use Rattle.table.specs.declared.Task.{Task}
+use Rattle.table.proofs.AnswerLaws.{AlikeAt, alike-sym, keeps-alike}
 use Rattle.table.proofs.OrderLaws.{compared}
 use Rattle.table.proofs.RepairLaws.{right-more}
-use Rattle.table.proofs.RunLaws.{SameAt, SameCourseAt, sameAt-sym, sameCourse-sym, right-same}
+use Rattle.table.proofs.RunLaws.{SameCourseAt, sameCourse-sym}
 use Rattle.table.proofs.RepairNumbers.{permitted-permits}
 use Rattle.search.proofs.SearchLaws.{right-keeps}
 use Rattle.search.specs.Choices.{inChoice, numbersIn, listOf, codeNumber, codeKind, codeAction}
@@ -149,25 +150,14 @@ shows-formed t well col shows = record {
 }
 
 module _ (t : Task) (col : Column) (shows : Shows t col) (inside : col .fact < t .table .facts) where
-  -- The same repairs of the fact are permitted.
-  same-permits : (k a : ℕ) → permits (cellsOf (t .table)) (col .fact) k a ≡ permits (cellsIn col) (col .fact) k a
-  unfolding permits cellsOf cellsIn
-  same-permits k a =
-      rw (lt-ltb (col .fact) (t .table .facts) inside, lt-ltb (col .fact) (suc (col .fact)) (omega arith), shows .actions, shows .deletes a, shows .adds a, shows .needs a)
-
-  same-permitted : (n : ℕ) → factOf n ≡ col .fact → permitted (cellsOf (t .table)) n ≡ permitted (cellsIn col) n
-  same-permitted n own =
-      permitted-permits (cellsOf (t .table)) n ∙
-      subst (λ (f : ℕ). permits (cellsOf (t .table)) f (kindOf n) (actionOf n) ≡ permits (cellsIn col) f (kindOf n) (actionOf n)) (sym own) (same-permits (kindOf n) (actionOf n)) ∙
-      sym (permitted-permits (cellsIn col) n)
-
-  -- With the same repairs applied the fact's cells and course are the same.
-  same-cells : (r : Course) (R : ℕ → Bool) → SameAt (col .fact) r (repaired (cellsOf (t .table)) R) (repaired (cellsIn col) R)
+  same-cells : AlikeAt (col .fact) (cellsOf (t .table)) (cellsIn col)
   unfolding cellsOf cellsIn
-  same-cells r R = record {
-    needs = λ i h. rw (shows .needs (r .step i));
-    adds = λ i h. rw (shows .adds (r .step i));
-    deletes = λ i h. rw (shows .deletes (r .step i));
+  same-cells = record {
+    inside = lt-ltb (col .fact) (t .table .facts) inside ∙ sym (lt-ltb (col .fact) (suc (col .fact)) (omega arith));
+    actions = sym (shows .actions);
+    needs = λ a. sym (shows .needs a);
+    adds = λ a. sym (shows .adds a);
+    deletes = λ a. sym (shows .deletes a);
   }
 
   same-course : SameCourseAt (col .fact) (courseOf (t .run)) (courseIn col)
@@ -181,24 +171,9 @@ module _ (t : Task) (col : Column) (shows : Shows t col) (inside : col .fact < t
 
   -- So a list keeps the fact right in the task exactly if it does so in the column.
   pub keeps-in : (l : List ℕ) → KeepsFor t (col .fact) l → KeepsIn col l
-  keeps-in l keeps = record {
-    permitted = record {
-      ascending = keeps .permitted .ascending;
-      each = λ n h. sym (same-permitted n (keeps .own n h)) ∙ keeps .permitted .each n h;
-    };
-    own = keeps .own;
-    right = right-same (col .fact) (courseOf (t .run)) (courseIn col) (repaired (cellsOf (t .table)) (isIn l)) (repaired (cellsIn col) (isIn l))
-        (same-cells (courseOf (t .run)) (isIn l)) same-course (keeps .right);
-  }
+  keeps-in = keeps-alike (col .fact) (cellsOf (t .table)) (cellsIn col) same-cells (courseOf (t .run)) (courseIn col) same-course
 
   pub in-keeps : (l : List ℕ) → KeepsIn col l → KeepsFor t (col .fact) l
-  in-keeps l keeps = record {
-    permitted = record {
-      ascending = keeps .permitted .ascending;
-      each = λ n h. same-permitted n (keeps .own n h) ∙ keeps .permitted .each n h;
-    };
-    own = keeps .own;
-    right = right-same (col .fact) (courseIn col) (courseOf (t .run)) (repaired (cellsIn col) (isIn l)) (repaired (cellsOf (t .table)) (isIn l))
-        (sameAt-sym (col .fact) (courseIn col) _ _ (same-cells (courseIn col) (isIn l))) (sameCourse-sym (col .fact) _ _ same-course)
-        (keeps .right);
-  }
+  in-keeps =
+      keeps-alike (col .fact) (cellsIn col) (cellsOf (t .table)) (alike-sym (col .fact) _ _ same-cells) (courseIn col) (courseOf (t .run))
+      (sameCourse-sym (col .fact) _ _ same-course)

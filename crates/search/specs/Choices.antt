@@ -1,5 +1,5 @@
 -- Sets of repairs of one fact. A repair of a fact is known by its code 32k + a, below 96; its number is 96f more.
-use mathlib.Core.Bool.{Bool, true, _&&_}
+use mathlib.Core.Bool.{Bool, true, false, _&&_}
 use mathlib.Core.List.{List, [], _∷_}
 use mathlib.Core.Path.{_≡_}
 use Prim.Native.Nat.{ℕ, _+_, _*_, _/_, _%_, _<_}
@@ -40,3 +40,11 @@ listOf f s = gather (λ code. piece (inChoice s code) (codeNumber f code ∷ [])
 -- The set R of numbers contains the choice.
 abbrev pub Contains : (ℕ → Bool) → ℕ → Choice → Type 0
 Contains R f s = (code : ℕ) → code < perFact → inChoice s code ≡ true → R (codeNumber f code) ≡ true
+
+-- It has none of the choice.
+abbrev pub Misses : (ℕ → Bool) → ℕ → Choice → Type 0
+Misses R f s = (code : ℕ) → code < perFact → inChoice s code ≡ true → R (codeNumber f code) ≡ false
+
+-- The choices share no repair.
+abbrev pub Apart : Choice → Choice → Type 0
+Apart a b = (code : ℕ) → code < perFact → inChoice a code ≡ true → inChoice b code ≡ false

@@ -1,5 +1,5 @@
 -- What looking along a run for a missing fact gives, and what looking back from it gives: document 01, "A conflict".
-use mathlib.Core.Bool.{true, false}
+use mathlib.Core.Bool.{Bool, true, false}
 use mathlib.Core.Logic.{_↔_}
 use mathlib.Core.Path.{_≡_}
 use Prim.Native.Nat.{ℕ, _+_, _-_, _<_, _≤_}
@@ -9,19 +9,22 @@ use Rattle.table.specs.Sizes.{perFact}
 use Rattle.table.specs.Strips.{Right}
 use Rattle.search.specs.declared.Column.{Column}
 use Rattle.search.specs.declared.Choice.{Choice}
-use Rattle.search.specs.Choices.{inChoice, codeOf}
+use Rattle.search.specs.declared.narrow.Place.{Place}
+use Rattle.search.specs.Choices.{nothing, inChoice, codeOf}
 use Rattle.search.specs.Columns.{courseIn}
 use Rattle.search.specs.Searching.{cellsWith, Missing, Conflicts}
 
--- The fact is missing at no place before r.
-abbrev pub NoneBefore : Column → Choice → ℕ → Type 0
-NoneBefore col s r = (j : ℕ) → j < r → Missing col s j → ⊥
-
--- The first place where the fact is missing, the place after the last step standing for the goal; or the one after
--- that, and then the candidate keeps the fact right.
+-- A place where the fact is missing, the place after the last step standing for the goal; or the one after that, and
+-- then the candidate keeps the fact right.
 pub data Gap (col : Column) (s : Choice) (r : ℕ) : Type 0 where
-  missing-at : r ≤ col .count → Missing col s r → NoneBefore col s r → Gap col s r
+  missing-at : r ≤ col .count → Missing col s r → Gap col s r
   nowhere : r ≡ col .count + 1 → Right (cellsWith col s) (courseIn col) (col .fact) → Gap col s r
+
+-- The place chosen so far stays, or gives way to place i, if the fact is missing there; a place past `count` is none, and
+-- gives way.
+pub data Noted (count : ℕ) (best : Place) (i : ℕ) (missing : Bool) (r : Place) : Type 0 where
+  stays : r ≡ best → (missing ≡ true → best .at ≤ count) → Noted count best i missing r
+  moves : missing ≡ true → r .at ≡ i → Noted count best i missing r
 
 -- "Look back from j until the last step that deleted f is met, or the start. (A step deleted f if its action, with the
 -- candidate applied, has f as a delete.)" The steps count from 1, and 0 is the start.
@@ -41,7 +44,7 @@ pub data Named (col : Column) (s : Choice) (j : ℕ) : ℕ → Type 0 where
 -- working list that contains the present candidate has one of" them.
 pub record ConflictAt (col : Column) (s : Choice) (j : ℕ) (q : Choice) : Type 0 where
   pub named : (code : ℕ) → code < perFact → (inChoice q code ≡ true) ↔ Named col s j code
-  pub conflicts : Conflicts col s q
+  pub conflicts : Conflicts col s nothing q
 
 -- m is the set of the actions of the steps at the places from `start` on and before `end`.
 pub record ActionsOf (col : Column) (start end : ℕ) (m : ℕ) : Type 0 where

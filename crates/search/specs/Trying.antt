@@ -2,7 +2,7 @@
 use mathlib.Core.Bool.{Bool, true, false}
 use mathlib.Core.Path.{_≡_}
 use Prim.Native.Nat.{ℕ, _<_, _≤_}
-use Rattle.facts.specs.Sets.{width, has, joined, only}
+use Rattle.facts.specs.Sets.{width, has, joined, removed, only}
 use Rattle.table.specs.Order.{_≼_}
 use Rattle.table.specs.Repairs.{byKind}
 use Rattle.table.specs.Sizes.{perFact}
@@ -30,6 +30,14 @@ bothOf a b = record {
   deletes = joined (a .deletes) (b .deletes);
   adds = joined (a .adds) (b .adds);
   needs = joined (a .needs) (b .needs);
+}
+
+-- The repairs of the first set that are not in the second.
+unfoldable pub withoutThose : Choice → Choice → Choice
+withoutThose a b = record {
+  deletes = removed (a .deletes) (b .deletes);
+  adds = removed (a .adds) (b .adds);
+  needs = removed (a .needs) (b .needs);
 }
 
 -- The first action from `skip` on that is in the set, or a number outside where none is.

@@ -1,4 +1,4 @@
-// Sets of repairs of one fact: what is in one, one repair more, two as one, and which of two comes first.
+// Sets of repairs of one fact: what is in one, one repair more, two as one, one without another, and which of two comes first.
 use crate::Choice;
 use crate::Found;
 use facts::below_mask;
@@ -17,7 +17,7 @@ ghost use lib.ListN.{length};
 ghost use Rattle.search.specs.Choices.{codeOf, inChoice, listOf};
 ghost use Rattle.search.specs.Choices as choices;
 ghost use Rattle.facts.specs.Sets.{sumBits};
-ghost use Rattle.search.specs.Trying.{withRepair, bothOf, NextAction, NextIn, FirstUnshared, FirstDifference, Earlier, FoundEarlier};
+ghost use Rattle.search.specs.Trying.{withRepair, bothOf, withoutThose, NextAction, NextIn, FirstUnshared, FirstDifference, Earlier, FoundEarlier};
 
 pub(crate) fn nothing() -> Choice
     ensures { λ r. ⌜ r ≡ choices.nothing ⌝ }
@@ -89,6 +89,17 @@ pub(crate) fn joined(a: Choice, b: Choice) -> Choice
         deletes: join(a.deletes, b.deletes),
         adds: join(a.adds, b.adds),
         needs: join(a.needs, b.needs),
+    }
+}
+
+// The repairs of the first set that are not in the second.
+pub(crate) fn without(a: Choice, b: Choice) -> Choice
+    ensures { λ r. ⌜ r ≡ withoutThose a b ⌝ }
+{
+    Choice {
+        deletes: remove(a.deletes, b.deletes),
+        adds: remove(a.adds, b.adds),
+        needs: remove(a.needs, b.needs),
     }
 }
 

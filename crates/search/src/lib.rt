@@ -4,6 +4,7 @@ mod bound;
 mod choices;
 mod conflict;
 mod gap;
+mod narrow;
 pub mod row;
 mod search;
 mod view;

@@ -20,10 +20,12 @@ in-choice-requires c κs = search needs
 
 returns : tie.Need-returns
 returns c =
-    subst (Earlier (c .before .before .before .before .before .args .a) (c .before .before .before .before .before .args .b))
-    (sym (c .in-choice .ensures))
+    let equal = c .before .before in
+    let sized = equal .before .before in
+    let args = sized .before .args in
+    subst (Earlier (args .a) (args .b)) (sym (c .in-choice .ensures))
     (earlier-difference _ _ _ (c .before .first-difference .ensures)
-    (λ f. sym (c .before .before .before .before .size .ensures f) ∙ c .before .before .if1 .taken ∙ c .before .before .before .size2 .ensures f))
+    (λ f. sym (sized .size .ensures f) ∙ equal .if1 .taken ∙ equal .before .size2 .ensures f))
 
 returns-2 : tie.Need-returns-2
 returns-2 c =

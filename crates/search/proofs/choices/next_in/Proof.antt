@@ -27,10 +27,17 @@ next-action-requires-2 c κs = search needs
 code-of-requires : tie.Need-code-of-requires
 code-of-requires c κs = search needs
 
+-- Where the deletes were passed, and where the adds were passed too.
+abbrev start : tie.Else1 → tie.Start
+start c = c .before .before
+
+abbrev after-deletes : tie.Else2 → tie.Else1
+after-deletes c = c .before .before .before
+
 -- No delete from there on, once these are passed.
-no-delete : (c : tie.Else1) → NoneIn (c .before .before .args .s) (c .before .before .args .from) (perKind * addEffect)
+no-delete : (c : tie.Else1) → NoneIn (start c .args .s) (start c .args .from) (perKind * addEffect)
 no-delete c =
-    let args = c .before .before .args in
+    let args = start c .args in
     let deletes = c .before .next-action in
     next-none (args .s) dropDelete (args .from) (args .from) (deletes .result) (omega arith) (omega arith) (deletes .ensures)
     (λ k h. absurd (omega arith)) (c .if1 .left)
@@ -38,11 +45,12 @@ no-delete c =
 returns-2 : tie.Need-returns-2
 returns-2 c =
     let d = c .before in
-    let args = d .before .before .before .before .before .args in
+    let deleted = d .before .before .before in
+    let args = start deleted .args in
     let adds = d .before .next-action2 in
     let skip = d .before .before .passed in
     next-here (args .s) addEffect (args .from) (skip .result) (adds .result) (omega arith) (skip .ensures) (adds .ensures)
-    (c .code-of .result) (c .code-of .ensures) (no-delete (d .before .before .before)) (d .if2 .taken)
+    (c .code-of .result) (c .code-of .ensures) (no-delete deleted) (d .if2 .taken)
 
 passed-requires-2 : tie.Need-passed-requires-2
 passed-requires-2 c κs = search needs
@@ -55,34 +63,36 @@ code-of-requires-2 c κs = search needs
 
 -- And no add, once those are passed too.
 no-add : (c : tie.Else2)
-    → NoneIn (c .before .before .before .before .before .args .s) (c .before .before .before .before .before .args .from) (perKind * dropNeed)
+    → NoneIn (start (after-deletes c) .args .s) (start (after-deletes c) .args .from) (perKind * dropNeed)
 no-add c =
-    let args = c .before .before .before .before .before .args in
+    let args = start (after-deletes c) .args in
     let adds = c .before .next-action2 in
     let skip = c .before .before .passed in
     next-none (args .s) addEffect (args .from) (skip .result) (adds .result) (omega arith) (skip .ensures) (adds .ensures)
-    (no-delete (c .before .before .before)) (c .if2 .left)
+    (no-delete (after-deletes c)) (c .if2 .left)
 
 returns-3 : tie.Need-returns-3
 returns-3 c =
     let d = c .before in
-    let args = d .before .before .before .before .before .before .before .before .args in
+    let added = d .before .before .before in
+    let args = start (after-deletes added) .args in
     let needs = d .before .next-action3 in
     let skip = d .before .before .passed2 in
     next-here (args .s) dropNeed (args .from) (skip .result) (needs .result) (omega arith) (skip .ensures) (needs .ensures)
-    (c .code-of2 .result) (c .code-of2 .ensures) (no-add (d .before .before .before)) (d .if3 .taken)
+    (c .code-of2 .result) (c .code-of2 .ensures) (no-add added) (d .if3 .taken)
 
 returns-4 : tie.Need-returns-4
 returns-4 c =
-    let start = c .before .before .before .before .before .before .before .before in
+    let added = c .before .before .before in
+    let at = start (after-deletes added) in
     let needs = c .before .next-action3 in
     let skip = c .before .before .passed2 in
     record {
-      after = start .pre;
+      after = at .pre;
       within = omega arith;
       absent =
-          next-none (start .args .s) dropNeed (start .args .from) (skip .result) (needs .result) (omega arith) (skip .ensures)
-          (needs .ensures) (no-add (c .before .before .before)) (c .if3 .left);
+          next-none (at .args .s) dropNeed (at .args .from) (skip .result) (needs .result) (omega arith) (skip .ensures)
+          (needs .ensures) (no-add added) (c .if3 .left);
       present = λ h. absurd (omega arith);
     }
 

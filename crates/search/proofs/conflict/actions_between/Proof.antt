@@ -37,11 +37,15 @@ loop-less c = omega arith
 loop-again : tie.Need-loop-again Inv-loop μ-loop
 unfolding courseIn
 loop-again c =
-    let room : getD (c .before .before .before .before .args .t1 .steps) (c .before .before .before .loop .i) 0 < width = omega (arith, step-lt (c .before .before .before .before .args .t1) (c .before .before .before .before .pre .0) (c .before .before .before .loop .i) (omega arith)) in (
+    let here = c .before .before .before in
+    let i = here .loop .i in
+    let start = here .before in
+    let col = start .args .t1 in
+    let room : getD (col .steps) i 0 < width = omega (arith, step-lt col (start .pre .0) i (omega arith)) in (
       omega arith,
       omega arith,
       rw (c .with-fact .ensures)
-          (actions-more (c .before .before .before .before .args .t1) (c .before .before .before .before .args .start) (c .before .before .before .loop .i) (c .before .before .before .loop .found) (omega arith) room (c .before .before .before .loop .inv .2)),
+          (actions-more col (start .args .start) i (here .loop .found) (omega arith) room (here .loop .inv .2)),
     )
 
 returns : tie.Need-returns Inv-loop μ-loop

@@ -14,6 +14,10 @@ Inv-loop s j col i₀ i = (i ≤ j) × NoDelete col s j i
 abbrev μ-loop : tie.MeasureT-loop
 μ-loop s j col i₀ i = i
 
+-- where the turn began
+abbrev at-loop : tie.After-deletes-with Inv-loop μ-loop → tie.At-loop Inv-loop μ-loop
+at-loop c = c .before .before .before
+
 loop-holds : tie.Need-loop-holds Inv-loop μ-loop
 loop-holds c = (omega arith, noDelete-none (c .args .t1) (c .args .s) (c .args .j))
 
@@ -37,27 +41,28 @@ loop-less c = omega arith
 
 loop-again : tie.Need-loop-again Inv-loop μ-loop
 unfolding courseIn
-loop-again c = (
-  omega arith,
-  noDelete-more (c .before .before .before .before .before .args .t1) (c .before .before .before .before .before .args .s) (c .before .before .before .before .before .args .j) (c .before .before .before .before .loop .i) (c .before .before .before .before .loop .inv .1)
-      (sym (c .before .deletes-with .ensures) ∙ c .if2 .left),
-)
+loop-again c =
+    let here = at-loop (c .before) in
+    let a = here .before .args in (
+      omega arith,
+      noDelete-more (a .t1) (a .s) (a .j) (here .loop .i) (here .loop .inv .1) (sym (c .before .deletes-with .ensures) ∙ c .if2 .left),
+    )
 
 returns : tie.Need-returns Inv-loop μ-loop
 returns c =
     record {
       within = omega arith;
       deleted = λ h. absurd (omega arith);
-      since = subst (NoDelete (c .before .before .args .t1) (c .before .before .args .s) (c .before .before .args .j)) (c .if1 .taken) (c .before .loop .inv .1);
+      since = let a = c .before .before .args in subst (NoDelete (a .t1) (a .s) (a .j)) (c .if1 .taken) (c .before .loop .inv .1);
     }
 
 returns-2 : tie.Need-returns-2 Inv-loop μ-loop
 unfolding courseIn
 returns-2 c =
     record {
-      within = c .before .before .before .before .loop .inv .0;
+      within = at-loop (c .before) .loop .inv .0;
       deleted = λ h. sym (c .before .deletes-with .ensures) ∙ c .if2 .taken;
-      since = c .before .before .before .before .loop .inv .1;
+      since = at-loop (c .before) .loop .inv .1;
     }
 
 pub look-back-spec : {M : Type 1} → statement M

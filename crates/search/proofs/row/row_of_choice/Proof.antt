@@ -17,6 +17,10 @@ Inv-loop f s row₀ code₀ row code = (code ≤ perFact) × (code < perFact →
 abbrev μ-loop : tie.MeasureT-loop
 μ-loop f s row₀ code₀ row code = perFact - code
 
+-- where the loop was entered from
+abbrev start : tie.At-loop Inv-loop μ-loop → tie.Start Inv-loop μ-loop
+start c = c .before .before .before
+
 bare-row-requires : tie.Need-bare-row-requires Inv-loop μ-loop
 bare-row-requires c κs = search needs
 
@@ -40,7 +44,7 @@ cast-row-with c = search needs
 row-with-requires : tie.Need-row-with-requires Inv-loop μ-loop
 row-with-requires c κs =
     let here = c .before .before .loop in
-    let at = c .before .before .before .before .before in
+    let at = start (c .before .before) in
     below-fits (at .args .f) (at .args .s) (here .code) (here .row .places) (at .pre .1) (c .before .loop-test .taken) (here .inv .2)
     (here .inv .1 (c .before .loop-test .taken))
 
@@ -55,21 +59,22 @@ loop-less c = omega (arith, c .next-in2 .ensures .after)
 
 loop-again : tie.Need-loop-again Inv-loop μ-loop
 loop-again c =
-    let number = c .before .before .number-of in
-    let here = c .before .before .before .before .loop in
-    let at = c .before .before .before .before .before .before .before in
-    let below = c .before .before .before .loop-test .taken in
+    let numbered = c .before .before in
+    let inside = numbered .before in
+    let here = inside .before .loop in
+    let at = start (inside .before) in
+    let below = inside .loop-test .taken in
     let fits = below-fits (at .args .f) (at .args .s) (here .code) (here .row .places) (at .pre .1) below (here .inv .2) (here .inv .1 below) in (
       c .next-in2 .ensures .within,
       c .next-in2 .ensures .present,
       below-more (at .args .f) (at .args .s) (here .code) (c .next-in2 .result) (here .row .places) (c .before .row-with .result .places)
-          (here .inv .2) (here .inv .1 below) fits (c .before .row-with .ensures ∙ ap (rowWith (here .row .places)) (number .ensures))
+          (here .inv .2) (here .inv .1 below) fits (c .before .row-with .ensures ∙ ap (rowWith (here .row .places)) (numbered .number-of .ensures))
           (c .next-in2 .ensures),
     )
 
 returns : tie.Need-returns Inv-loop μ-loop
 returns c =
-    let at = c .before .before .before .before in
+    let at = start (c .before) in
     below-end (at .args .f) (at .args .s) (c .before .loop .code) (c .before .loop .row .places) (omega arith) (c .before .loop .inv .2)
 
 pub row-of-choice-spec : {M : Type 1} → statement M

@@ -10,15 +10,15 @@ use Rattle.table.specs.Sizes.{maxRow}
 use Rattle.search.specs.declared.Choice.{Choice}
 use Rattle.search.specs.declared.Found.{Found}
 use Rattle.search.specs.Columns.{KeepsIn}
-use Rattle.search.proofs.SearchLaws.{nothing-allowed, shortest-found, longer-than}
+use Rattle.search.proofs.SearchLaws.{nothing-allowed, nothing-out, shortest-found, longer-than}
 use Rattle.search.proofs.search.shortest.Statement.{statement}
 use Rattle.search.proofs.search.shortest.Tie as tie
 
 abbrev Inv-loop : tie.InvT-loop
-Inv-loop col none left₀ left = (left ≤ maxRow + 1) × ((l : List ℕ) → KeepsIn col l → left ≤ length l)
+Inv-loop col empty none left₀ left = (left ≤ maxRow + 1) × ((l : List ℕ) → KeepsIn col l → left ≤ length l)
 
 abbrev μ-loop : tie.MeasureT-loop
-μ-loop col none left₀ left = maxRow + 1 - left
+μ-loop col empty none left₀ left = maxRow + 1 - left
 
 -- what is found before the search: nothing
 abbrev none : Choice → Found
@@ -30,19 +30,17 @@ nothing-requires c κs = search needs
 loop-holds : tie.Need-loop-holds Inv-loop μ-loop
 loop-holds c = (omega arith, λ l keeps. omega arith)
 
-nothing-requires-2 : tie.Need-nothing-requires-2 Inv-loop μ-loop
-nothing-requires-2 c κs = search needs
-
 test-requires : tie.Need-test-requires Inv-loop μ-loop
 test-requires c κs =
-    let at = c .before .before .before .before in
-    (at .pre, nothing-allowed (at .args .col) (c .nothing2 .result) (c .nothing2 .ensures))
+    let empty = c .before .before .nothing in
+    let at = c .before .before .before in
+    (at .pre, (nothing-allowed (at .args .col) (empty .result) (empty .ensures), nothing-out (at .args .col) (empty .result) (empty .ensures)))
 
 returns : tie.Need-returns Inv-loop μ-loop
 returns c =
-    let from = c .before .before .nothing2 in
-    let at = c .before .before .before .before in
-    shortest-found (at .before .before .args .col) (from .result) (at .loop .left) (none (at .before .nothing .result)) (c .before .test .result)
+    let at = c .before .before .before in
+    let from = at .before .nothing in
+    shortest-found (at .before .before .args .col) (from .result) (at .loop .left) (none (from .result)) (c .before .test .result)
     (from .ensures) refl (c .before .test .ensures) (omega arith) (c .if1 .taken)
 
 add-left : tie.Need-add-left Inv-loop μ-loop
@@ -53,10 +51,10 @@ loop-less c = omega arith
 
 loop-again : tie.Need-loop-again Inv-loop μ-loop
 loop-again c =
-    let from = c .before .before .nothing2 in
-    let at = c .before .before .before .before in (
+    let at = c .before .before .before in
+    let from = at .before .nothing in (
       omega arith,
-      longer-than (at .before .before .args .col) (from .result) (at .loop .left) (none (at .before .nothing .result)) (c .before .test .result)
+      longer-than (at .before .before .args .col) (from .result) (at .loop .left) (none (from .result)) (c .before .test .result)
           (from .ensures) refl (c .before .test .ensures) (c .if1 .left),
     )
 
@@ -71,7 +69,6 @@ shortest-spec =
     μ-loop
     nothing-requires
     loop-holds
-    nothing-requires-2
     test-requires
     returns
     add-left

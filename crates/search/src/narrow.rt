@@ -1,0 +1,89 @@
+// Of the places where the fact is missing, one with the fewest repairs left. Every such place has a conflict, and document 01
+// does not say at which to look: which one it is, is for speed alone, and what is promised is that the fact is missing there.
+use crate::Choice;
+use crate::Column;
+use crate::choices;
+use crate::gap;
+ghost use Rattle.search.specs.Columns.{ColumnFormed};
+ghost use Rattle.search.specs.Gaps.{Gap, Noted};
+
+// A place, and how many repairs are left there.
+struct Place {
+    at: usize,
+    left: usize,
+}
+
+// The repairs of the steps since the last delete, which a later place has in its conflict, with one step more.
+fn opened(open: Choice, a: usize, gone: bool) -> Choice {
+    let only = facts::with_fact(0, a);
+    if gone {
+        return Choice {
+            deletes: only,
+            adds: only,
+            needs: 0,
+        };
+    }
+    Choice {
+        deletes: open.deletes,
+        adds: facts::join(open.adds, only),
+        needs: 0,
+    }
+}
+
+// The same with the need of the step at the place itself.
+fn needed(open: Choice, a: usize) -> Choice {
+    Choice {
+        deletes: open.deletes,
+        adds: open.adds,
+        needs: facts::with_fact(0, a),
+    }
+}
+
+// The narrower of the place chosen so far and place i, if the fact is missing there; of two that are as narrow the later, with
+// which fewer candidates were tried on hard facts. A place past the goal's is none.
+fn narrower(best: Place, i: usize, count: usize, missing: bool, q: Choice) -> Place
+    ensures { λ r. ⌜ Noted count best i missing r ⌝ }
+{
+    if !missing {
+        return best;
+    }
+    let left = choices::size(q);
+    if (best.at <= count) & (best.left < left) {
+        return best;
+    }
+    Place { at: i, left }
+}
+
+// A place where the fact is missing, one with the fewest repairs that are not out; or the one after the goal's. With one
+// repair left, or none, there is no narrower place to look for.
+pub(crate) fn narrowest_gap(col: Column, s: Choice, out: Choice) -> usize
+    requires { ⌜ ColumnFormed col ⌝ }
+    ensures { λ r. ⌜ Gap col s r ⌝ }
+{
+    let count = col.count;
+    let mut present = col.start;
+    let mut open = choices::nothing();
+    let mut best = Place {
+        at: count + 1,
+        left: 2,
+    };
+    for i in 0..count {
+        let a = col.steps[i] as usize;
+        let missing = gap::needs_with(col, s, a) & !present;
+        best = narrower(
+            best,
+            i,
+            count,
+            missing,
+            choices::without(needed(open, a), out),
+        );
+        if best.left <= 1 {
+            return best.at;
+        }
+        let gone = gap::deletes_with(col, s, a);
+        open = opened(open, a, gone);
+        present = (present & !gone) | gap::adds_with(col, s, a);
+    }
+    let missing = col.goal & !present;
+    narrower(best, count, count, missing, choices::without(open, out)).at
+}
