@@ -1,25 +1,26 @@
 -- Laws of the session's calls: which refusal is given, what each way out of a call promises, and that the promise determines the
 -- answer and what was lent. Assumes nothing.
-use mathlib.Core.Bool.{Bool, true, false, not, _&&_, false≢true}
+use mathlib.Core.Bool.{true, false, not, _&&_, false≢true}
 use mathlib.Core.List.{List, [], _∷_}
 use mathlib.Core.Path.{_≡_, refl, sym, ap, _∙_, subst}
 use Prim.Native.Nat.{ℕ, _<_}
 use native.Mathlib.Omega.{arith}
 use lib.Dec.{eqb, ltb}
 use lib.ListN.{length}
-use borrow.Author.Tests.{eq-eqb, ne-eqb, eqb-true, eqb-false, ltb-true, not-false}
+use borrow.Author.Tests.{eq-eqb, ne-eqb, eqb-true, ltb-true, not-false}
 use Rattle.change.proofs.EditLaws.{edited-exactly, edited-only}
 use Rattle.change.specs.Editing.{edited, cellFact, cellInside, EditedTo}
 use Rattle.change.specs.declared.Cell.{Cell}
 use Rattle.change.specs.declared.Cell.the-variants.{Need, Add, Delete, Start, Goal}
 use Rattle.change.specs.declared.Edit.{Edit}
-use Rattle.solve.proofs.RowLaws.{stored-unique, rewritten-unique}
+use Rattle.solve.proofs.TableLaws.{filled-stored, stored-unique, rewritten-unique}
 use Rattle.solve.specs.Solving.{told}
 use Rattle.table.specs.Outcomes.{refused}
-use Rattle.solve.specs.Tables.{verdictAt, Stored, Rewritten}
+use Rattle.solve.specs.Tables.{verdictAt, Stored, Filled, Rewritten}
 use Rattle.table.proofs.FlagLaws.{and-right}
 use Rattle.table.proofs.Formation.{well-formed}
 use Rattle.table.proofs.RefusalLaws.{silent}
+use Rattle.table.proofs.ReplyLaws.{one-answer}
 use Rattle.table.specs.Refusals.{Refusal, firstOf, refuse, none, accepted, notWellFormed, notASession, editOutside}
 use Rattle.table.specs.Join.{joinVerdicts}
 use Rattle.table.specs.Sizes.{maxFacts, sessionPlaces}
@@ -28,7 +29,7 @@ use Rattle.table.specs.declared.Reply.{Reply}
 use Rattle.table.specs.declared.Task.{Task}
 use Rattle.session.specs.Calls.{openRefusal, Opens, editRefusal, Edits, listed, Made, made-none, made-set, made-refused}
 use Rattle.session.specs.Sessions.{inForm}
-use Rattle.session.specs.declared.Edited.{Edited}
+use Rattle.table.specs.declared.TaskReply.{TaskReply}
 
 -- ---- which refusal
 
@@ -88,13 +89,13 @@ module _ (t : Task) (s : List ℕ) where
     opened = λ k. absurd (omega arith);
   }
 
-  pub opens-opened : formed t ≡ true → length s ≡ sessionPlaces → (after : List ℕ) → Stored t after
+  pub opens-opened : formed t ≡ true → length s ≡ sessionPlaces → (after : List ℕ) → Filled t s after
       → Opens t s (record { number = accepted; place = 0; length = sessionPlaces }) after
   opens-opened h n after b = record {
     number = ap (λ (r : Refusal). r .number) (sym (open-clear t s h n));
     place = ap (λ (r : Refusal). r .place) (sym (open-clear t s h n));
     refused = λ k. absurd (k refl);
-    opened = λ k. (refl, b);
+    opened = λ k. (refl, filled-stored t s after n b);
   }
 
   pub edits-refused : (e : Edit) (n : ℕ) → 0 < n → editRefusal t s e ≡ at-zero n → Edits t s e (record { number = n; place = 0; task = t }) s
@@ -147,61 +148,32 @@ module _ (t : Task) (s room : List ℕ) where
 
 -- ---- one result
 
-same-reply : (r q : Reply) → r .number ≡ q .number → r .place ≡ q .place → r .length ≡ q .length → r ≡ q
-same-reply r q n p l = λ i. record { number = n i; place = p i; length = l i }
-
-same-edited : (r q : Edited) → r .number ≡ q .number → r .place ≡ q .place → r .task ≡ q .task → r ≡ q
-same-edited r q n p l = λ i. record { number = n i; place = p i; task = l i }
-
 -- Two results of opening that meet its promise on equal inputs are equal: number, place, length, and all numbers lent.
 pub opens-unique : (t : Task) (s : List ℕ) (r q : Reply) (after other : List ℕ) → Opens t s r after → Opens t s q other → (r ≡ q) × (after ≡ other)
-opens-unique t s r q after other a b = pick (eqb (r .number) accepted) refl
-  where
-    same : r .number ≡ q .number
-    same = a .number ∙ sym (b .number)
-
-    place : r .place ≡ q .place
-    place = a .place ∙ sym (b .place)
-
-    pick : (x : Bool) → eqb (r .number) accepted ≡ x → (r ≡ q) × (after ≡ other)
-    pick true h =
-        let e = eqb-true (r .number) accepted h in
-        let p = a .opened e in
-        let o = b .opened (sym same ∙ e) in
-        (same-reply r q same place (p .0 ∙ sym (o .0)), stored-unique t after other (p .1) (o .1))
-    pick false h =
-        let n = eqb-false (r .number) accepted h in
-        let p = a .refused n in
-        let o = b .refused (λ k. n (same ∙ k)) in
-        (same-reply r q same place (p .0 ∙ sym (o .0)), p .1 ∙ sym (o .1))
+opens-unique t s r q after other a b =
+    let number : r .number ≡ q .number = a .number ∙ sym (b .number) in
+    let place : r .place ≡ q .place = a .place ∙ sym (b .place) in
+    let rest : _≡_ {A = ℕ × List ℕ} (r .length, after) (q .length, other) =
+    one-answer {X = ℕ × List ℕ} (λ x. (x .0 ≡ 0) × (x .1 ≡ s)) (λ x. (x .0 ≡ sessionPlaces) × Stored t (x .1)) (r .number) (q .number)
+    (r .length, after) (q .length, other) number (λ p o i. ((p .0 ∙ sym (o .0)) i, (p .1 ∙ sym (o .1)) i))
+    (λ p o i. ((p .0 ∙ sym (o .0)) i, stored-unique t after other (p .1) (o .1) i)) (a .refused) (b .refused) (a .opened) (b .opened) in
+    ((λ i. record { number = number i; place = place i; length = rest i .0 }), (λ i. rest i .1))
 
 -- The same of an edit: number, place, task, and all numbers lent.
-pub edits-unique : (t : Task) (s : List ℕ) (e : Edit) (r q : Edited) (after other : List ℕ) → Edits t s e r after → Edits t s e q other
+pub edits-unique : (t : Task) (s : List ℕ) (e : Edit) (r q : TaskReply) (after other : List ℕ) → Edits t s e r after → Edits t s e q other
     → (r ≡ q) × (after ≡ other)
-edits-unique t s e r q after other a b = pick (eqb (r .number) accepted) refl
-  where
-    same : r .number ≡ q .number
-    same = a .number ∙ sym (b .number)
-
-    place : r .place ≡ q .place
-    place = a .place ∙ sym (b .place)
-
-    pick : (x : Bool) → eqb (r .number) accepted ≡ x → (r ≡ q) × (after ≡ other)
-    pick true h =
-        let n = eqb-true (r .number) accepted h in
-        let p = a .accepted n in
-        let o = b .accepted (sym same ∙ n) in
-        let long : length s ≡ sessionPlaces = edit-accepted t s e (sym (a .number) ∙ n) .1 in
-        let task = edited-only t e (r .task) (q .task) (p .0) (o .0) in (
-          same-edited r q same place task,
-          rewritten-unique (r .task) (cellFact (e .cell)) s after other long (p .1)
-              (subst (λ (x : Task). Rewritten x (cellFact (e .cell)) s other) (sym task) (o .1)),
-        )
-    pick false h =
-        let n = eqb-false (r .number) accepted h in
-        let p = a .refused n in
-        let o = b .refused (λ k. n (same ∙ k)) in
-        (same-edited r q same place (p .0 ∙ sym (o .0)), p .1 ∙ sym (o .1))
+edits-unique t s e r q after other a b =
+    let f = cellFact (e .cell) in
+    let number : r .number ≡ q .number = a .number ∙ sym (b .number) in
+    let place : r .place ≡ q .place = a .place ∙ sym (b .place) in
+    let rest : _≡_ {A = Task × List ℕ} (r .task, after) (q .task, other) =
+    one-answer {X = Task × List ℕ} (λ x. (x .0 ≡ t) × (x .1 ≡ s)) (λ x. EditedTo t e (x .0) × Rewritten (x .0) f s (x .1)) (r .number) (q .number)
+    (r .task, after) (q .task, other) number (λ p o i. ((p .0 ∙ sym (o .0)) i, (p .1 ∙ sym (o .1)) i))
+    (λ p o.
+    let task = edited-only t e (r .task) (q .task) (p .0) (o .0) in
+    let table = rewritten-unique (r .task) f s after other (p .1) (subst (λ (x : Task). Rewritten x f s other) (sym task) (o .1)) in
+    λ i. (task i, table i)) (a .refused) (b .refused) (a .accepted) (b .accepted) in
+    ((λ i. record { number = number i; place = place i; task = rest i .0 }), (λ i. rest i .1))
 
 -- The same of the task that the accepted edits make.
 pub made-unique : (t : Task) (es : List Edit) (u v : Task) → Made t es u → Made t es v → u ≡ v

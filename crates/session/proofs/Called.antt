@@ -14,7 +14,7 @@ use Rattle.session.proofs.open.Reads as opening
 use Rattle.session.proofs.edit.Reads as editing
 use Rattle.session.proofs.list.Reads as listing
 use Rattle.session.specs.Calls.{Opens, Edits, listed}
-use Rattle.session.specs.declared.Edited.{Edited}
+use Rattle.table.specs.declared.TaskReply.{TaskReply}
 
 -- Opening a session of t in the table s gives r and leaves `after`.
 abbrev pub OpenGives : Task → List ℕ → Reply → List ℕ → Type 0
@@ -25,12 +25,12 @@ pub open-gives : (t : Task) (s : List ℕ) (r : Reply) (after : List ℕ) → Op
 open-gives t s r after = call-keeps (λ i o. Opens (i .0) (i .1) (o .0) (o .1)) (λ k a r b p. p) (t, s) (r, after)
 
 -- An edit of t in a session with the table s gives r and leaves `after`.
-abbrev pub EditGives : Task → List ℕ → Edit → Edited → List ℕ → Type 0
+abbrev pub EditGives : Task → List ℕ → Edit → TaskReply → List ℕ → Type 0
 EditGives t s e r after =
-    Call {I = Task × List ℕ × Edit} {O = Edited × List ℕ} editing.Post (λ a. (a .0, now (a .1 .0), a .1 .1 .0)) (λ r b. (r, now (b .1 .0)))
+    Call {I = Task × List ℕ × Edit} {O = TaskReply × List ℕ} editing.Post (λ a. (a .0, now (a .1 .0), a .1 .1 .0)) (λ r b. (r, now (b .1 .0)))
     (t, s, e) (r, after)
 
-pub edit-gives : (t : Task) (s : List ℕ) (e : Edit) (r : Edited) (after : List ℕ) → EditGives t s e r after → Edits t s e r after
+pub edit-gives : (t : Task) (s : List ℕ) (e : Edit) (r : TaskReply) (after : List ℕ) → EditGives t s e r after → Edits t s e r after
 edit-gives t s e r after = call-keeps (λ i o. Edits (i .0) (i .1) (i .2) (o .0) (o .1)) (λ k a r b p. p) (t, s, e) (r, after)
 
 -- Listing the session of t in the table s, into this room, gives o.

@@ -18,6 +18,7 @@ use Rattle.table.proofs.AnswerLaws.{first-unique}
 use Rattle.table.proofs.FlagLaws.{both, and-both, or-right, by-order}
 use Rattle.table.proofs.CountingLaws.{all-everyBelow, everyBelow-all}
 use Rattle.table.proofs.JoinLaws.{keepsFor-outside}
+use Rattle.table.proofs.Strides.{sessionPlaces-rows}
 use Rattle.table.specs.Answer.{Verdict, found, over, hopeless, Within, Keeps, First}
 use Rattle.table.specs.Repairs.{permitted, factOf}
 use Rattle.table.specs.Sizes.{maxFacts, maxRow, sessionPlaces, unused}
@@ -124,7 +125,7 @@ unfolding inForm rowInForm
 in-form-readable t w s h =
     let p = both (eqb (length s) sessionPlaces) (everyBelow (λ f. rowInForm (cellsOf (t .table)) f (rowAt s f)) maxFacts) h in
     record {
-      places = eqb-true (length s) sessionPlaces (p .0);
+      places = omega (arith, eqb-true (length s) sessionPlaces (p .0), sessionPlaces-rows);
       firsts = λ f l.
           let first : Bool = leb (getD (rowAt s f) 0 0) rowHopeless in
           let inside : Bool = ltb f (cellsOf (t .table) .facts) || eqb (getD (rowAt s f) 0 0) 0 in

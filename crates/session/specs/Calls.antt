@@ -17,7 +17,7 @@ use Rattle.table.specs.Sizes.{sessionPlaces}
 use Rattle.table.specs.Tasks.{formed}
 use Rattle.table.specs.declared.Task.{Task}
 use Rattle.table.specs.declared.Reply.{Reply}
-use Rattle.session.specs.declared.Edited.{Edited}
+use Rattle.table.specs.declared.TaskReply.{TaskReply}
 use Rattle.session.specs.Sessions.{inForm}
 
 -- The refusals of opening, in order: "Opening gives 12 or 13 only."
@@ -40,7 +40,7 @@ editRefusal t s e =
 
 -- "It gives the edited task and writes the fact's row afresh; other rows are kept as found, right or not." A refused
 -- edit returns the task it was given and writes nothing.
-pub record Edits (t : Task) (s : List ℕ) (e : Edit) (r : Edited) (after : List ℕ) : Type 0 where
+pub record Edits (t : Task) (s : List ℕ) (e : Edit) (r : TaskReply) (after : List ℕ) : Type 0 where
   pub number : r .number ≡ editRefusal t s e .number
   pub place : r .place ≡ editRefusal t s e .place
   pub refused : (r .number ≡ accepted → ⊥) → (r .task ≡ t) × (after ≡ s)
@@ -57,7 +57,7 @@ listed t s room =
 -- A story of edits: each step is any result that the edit's contract allows.
 pub data Story : Task → List ℕ → List Edit → Task → List ℕ → Type 0 where
   told-all : {t : Task} {s : List ℕ} → Story t s [] t s
-  then : {t : Task} {s : List ℕ} {e : Edit} {r : Edited} {after : List ℕ} {es : List Edit} {u : Task} {end : List ℕ}
+  then : {t : Task} {s : List ℕ} {e : Edit} {r : TaskReply} {after : List ℕ} {es : List Edit} {u : Task} {end : List ℕ}
       → Edits t s e r after → Story (r .task) after es u end → Story t s (e ∷ es) u end
 
 -- "the table as the accepted edits make it one after another": u is t with the accepted edits made in turn, of each exactly its cell.

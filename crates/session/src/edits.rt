@@ -5,7 +5,7 @@ use table::FACTS;
 ghost use mathlib.Core.Path.{_≡_};
 ghost use Rattle.session.specs.EditNumbers.{cellOf, editOf};
 
-// The kinds of cell by their numbers, and the number that sets a cell to present.
+// The kinds of cell by their numbers, and the one number that sets a cell to absent.
 pub const NEED: usize = 0;
 
 pub const ADD: usize = 1;
@@ -16,7 +16,7 @@ pub const START: usize = 3;
 
 pub const GOAL: usize = 4;
 
-pub const PRESENT: usize = 1;
+pub const ABSENT: usize = 0;
 
 // A number that is no kind names a fact that no task has.
 fn cell_of(kind: usize, action: usize, fact: usize) -> Cell
@@ -37,13 +37,14 @@ fn cell_of(kind: usize, action: usize, fact: usize) -> Cell
     }
 }
 
-// The edit of four numbers, for every caller who gives an edit as numbers.
+// The edit of four numbers, for every caller who gives an edit as numbers. Every number but 0 is present, as C has it of a truth: no
+// caller clears a cell by passing 2.
 pub fn edit_of(kind: usize, action: usize, fact: usize, present: usize) -> Edit
     ensures { λ r. ⌜ r ≡ editOf kind action fact present ⌝ }
 {
     let cell = cell_of(kind, action, fact);
     Edit {
         cell,
-        present: present == PRESENT,
+        present: present != ABSENT,
     }
 }

@@ -1,6 +1,5 @@
 // When a session table is in form for a task, decided as document 01, "The session table", words it: each test is the
 // definition of its name in specs/Sessions.
-use change::apply;
 use search::row;
 use solve::report;
 use table::FACTS;
@@ -9,6 +8,7 @@ use table::SESSION_PLACES;
 use table::Table;
 use table::Task;
 use table::UNUSED;
+use table::permitted;
 use table::repair::Repair;
 ghost use mathlib.Core.Path.{_≡_};
 ghost use Prim.Native.Nat.{_<_};
@@ -26,7 +26,7 @@ fn is_repair_in_form(t: Table, table: &[u16], f: usize, i: usize) -> bool
     let before = report::number_at(table, f, i);
     let n = report::number_at(table, f, i + 1);
     let fact = Repair::of(n).fact;
-    apply::is_permitted(t, n) & (fact == f) & ((i == 0) | (before < n))
+    permitted::is_permitted(t, n) & (fact == f) & ((i == 0) | (before < n))
 }
 
 // The i-th place: one of the row's repairs, or "65535 elsewhere".

@@ -9,18 +9,12 @@ use solve::rows;
 use table::Reply;
 use table::SESSION_PLACES;
 use table::Task;
+use table::TaskReply;
 use table::formed;
 use table::refusals;
 ghost use mathlib.Core.Path.{_≡_};
 ghost use Rattle.table.specs.Outcomes.{Outcome};
 ghost use Rattle.session.specs.Calls.{Opens, Edits, listed};
-
-// What an edit gives: 0, 0 and the edited task, or the refusal and the task given.
-pub struct Edited {
-    pub number: usize,
-    pub place: usize,
-    pub task: Task,
-}
 
 // Opens a session: 12, 13 for another length, else "Opening fills all rows".
 pub fn open(t: Task, table: &mut [u16]) -> Reply
@@ -42,10 +36,10 @@ pub fn open(t: Task, table: &mut [u16]) -> Reply
 }
 
 // A refused edit "returns the task it was given".
-fn refuse_edit(t: Task, number: usize) -> Edited
+fn refuse_edit(t: Task, number: usize) -> TaskReply
     ensures { λ r. ⌜ r ≡ record { number = number; place = 0; task = t } ⌝ }
 {
-    Edited {
+    TaskReply {
         number,
         place: 0,
         task: t,
@@ -53,7 +47,7 @@ fn refuse_edit(t: Task, number: usize) -> Edited
 }
 
 // One edit: 12, 13 for another length, 14, else the edited task with the fact's row written afresh; it costs one row.
-pub fn edit(t: Task, table: &mut [u16], e: Edit) -> Edited
+pub fn edit(t: Task, table: &mut [u16], e: Edit) -> TaskReply
     ensures { λ r. ⌜ Edits t (now (table .entry)) e r (now (table .exit)) ⌝ }
 {
     if !formed::is_formed(t) {
@@ -68,7 +62,7 @@ pub fn edit(t: Task, table: &mut [u16], e: Edit) -> Edited
     let task = editing::set_cell(t, e);
     let fact = editing::cell_fact(e);
     rows::put_row(task, fact, table);
-    Edited {
+    TaskReply {
         number: refusals::ACCEPTED,
         place: 0,
         task,

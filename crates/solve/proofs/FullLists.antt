@@ -1,8 +1,7 @@
 -- The fullest list of a fact, all its permitted repairs: with a step in the run it keeps the fact right. (Every need of the fact is dropped,
 -- and every action adds it, the last step's too.) So with a step some list works. Assumes nothing.
 use mathlib.Core.Bool.{Bool, true, false, not, _&&_, _||_, false≢true}
-use mathlib.Core.List.{List, [], _∷_, _++_}
-use mathlib.Core.Logic.{_⊎_, inl, inr}
+use mathlib.Core.List.{List, [], _++_}
 use mathlib.Core.Path.{_≡_, refl, sym, ap, _∙_, subst}
 use Prim.Native.Nat.{ℕ, zero, suc, _+_, _-_, _*_, _<_, _≤_}
 use native.Mathlib.Omega.{arith}
@@ -10,93 +9,45 @@ use borrow.Author.Tests.{lt-ltb}
 use lib.Dec.{ltb}
 use Rattle.table.specs.Answer.{Permitted, Works, Keeps}
 use Rattle.table.specs.Join.{KeepsBelow, Inside}
-use Rattle.table.specs.Lists.{gather, piece}
-use Rattle.table.specs.Order.{Ascending, AscendingFrom, isIn}
+use Rattle.table.specs.Order.{isIn}
 use Rattle.table.specs.Repairs.{permits, permitted, chosen, repaired, numberOf, factOf, addEffect, dropNeed}
-use Rattle.table.specs.Sizes.{maxActions, kinds, perFact}
+use Rattle.table.specs.Sizes.{maxActions, kinds, perFact, perKind}
 use Rattle.table.specs.Strips.{Cells, Course, Right, stateAt}
-use Rattle.table.proofs.FlagLaws.{and-left, and-right, and-both, or-left, or-right, by-order}
+use Rattle.table.proofs.FlagLaws.{and-left, and-right, and-both, or-left, or-right}
+use Rattle.table.proofs.GatherLaws.{passing, passing-from, passing-has, passing-ascending}
 use Rattle.table.proofs.JoinLaws.{keepsBelow-none, join-keeps, keepsBelow-works}
-use Rattle.table.proofs.OrderLaws.{isIn-none, isIn-head, isIn-cases, isIn-left, isIn-right, isIn-either, ascending-append}
 use Rattle.table.proofs.RepairNumbers.{inside-permits, permitted-number}
 use Rattle.table.proofs.RunLaws.{stateAt-next}
-
--- ---- the numbers of a range that pass a test
-
-unfoldable picks : (ℕ → Bool) → ℕ → ℕ → List ℕ
-picks p base n = gather (λ i. piece (p (base + i)) ((base + i) ∷ [])) n
-
-module _ (p : ℕ → Bool) where
-  one-in : (x m : ℕ) (b : Bool) → p x ≡ b → isIn (piece b (x ∷ [])) m ≡ true → (m ≡ x) × (p m ≡ true)
-  one-in x m false e h = absurd (isIn-none m h)
-  one-in x m true e h = pick (isIn-cases x [] m h)
-    where
-      pick : (m ≡ x) ⊎ (isIn [] m ≡ true) → (m ≡ x) × (p m ≡ true)
-      pick (inl d) = (d, ap p d ∙ e)
-      pick (inr k) = absurd (isIn-none m k)
-
-  module _ (base : ℕ) where
-    picks-in : (n m : ℕ) → isIn (picks p base n) m ≡ true → (base ≤ m) × (m < base + n) × (p m ≡ true)
-    unfolding picks gather
-    picks-in zero m h = absurd (isIn-none m h)
-    picks-in (suc n) m h =
-        pick (picks-in n m) (isIn-either (picks p base n) (piece (p (base + n)) ((base + n) ∷ [])) m h)
-      where
-        pick : (isIn (picks p base n) m ≡ true → (base ≤ m) × (m < base + n) × (p m ≡ true))
-            → (isIn (picks p base n) m ≡ true) ⊎ (isIn (piece (p (base + n)) ((base + n) ∷ [])) m ≡ true)
-            → (base ≤ m) × (m < base + suc n) × (p m ≡ true)
-        pick before (inl k) = let q = before k in (q .0, omega (arith, q .1), q .2)
-        pick before (inr k) = let q = one-in (base + n) m (p (base + n)) refl k in (omega (arith, q .0), omega (arith, q .0), q .1)
-
-    picks-all : (n m : ℕ) → base ≤ m → m < base + n → p m ≡ true → isIn (picks p base n) m ≡ true
-    unfolding picks gather
-    picks-all zero m l h k = absurd (omega arith)
-    picks-all (suc n) m l h k =
-        by-order m (base + n)
-        (λ (low : m < base + n). isIn-left (picks p base n) (piece (p (base + n)) ((base + n) ∷ [])) m (picks-all n m l low k))
-        (λ (high : base + n ≤ m).
-        let e : base + n ≡ m = omega arith in
-        isIn-right (picks p base n) (piece (p (base + n)) ((base + n) ∷ [])) m (last e (p (base + n)) (ap p e ∙ k)))
-      where
-        last : base + n ≡ m → (b : Bool) → b ≡ true → isIn (piece b ((base + n) ∷ [])) m ≡ true
-        last e true d = subst (λ (x : ℕ). isIn ((base + n) ∷ []) x ≡ true) e (isIn-head (base + n) [])
-        last e false d = absurd (false≢true d)
-
-    picks-ascending : (n : ℕ) → Ascending (picks p base n)
-    unfolding picks gather
-    picks-ascending zero = tt
-    picks-ascending (suc n) =
-        ascending-append 0 (base + n) (picks p base n) (piece (p (base + n)) ((base + n) ∷ [])) (picks-ascending n)
-        (λ m h. picks-in n m h .1) (omega arith) (one (p (base + n)))
-      where
-        one : (b : Bool) → AscendingFrom (base + n) (piece b ((base + n) ∷ []))
-        one true = (omega arith, tt)
-        one false = tt
 
 -- ---- the fullest list of fact f
 
 unfoldable full : Cells → ℕ → List ℕ
-full c f = picks (permitted c) (perFact * f) perFact
+full c f = passing (λ i. permitted c (perFact * f + i)) (perFact * f) perFact
 
 module _ (c : Cells) (actions : c .actions ≤ maxActions) (f : ℕ) (inside : f < c .facts) where
+  abbrev own : ℕ → Bool
+  own i = permitted c (perFact * f + i)
+
   full-permitted : Permitted c (full c f)
   unfolding full
   full-permitted = record {
-    ascending = picks-ascending (permitted c) (perFact * f) perFact;
-    each = λ n h. picks-in (permitted c) (perFact * f) perFact n h .2;
+    ascending = passing-ascending own (perFact * f) perFact;
+    each = λ n h. let d = passing-from own (perFact * f) perFact n h in ap (permitted c) (d .number) ∙ d .passes;
   }
 
   full-own : (n : ℕ) → isIn (full c f) n ≡ true → factOf n ≡ f
   unfolding full
-  full-own n h = let q = picks-in (permitted c) (perFact * f) perFact n h in omega (arith, q .0, q .1)
+  full-own n h = let d = passing-from own (perFact * f) perFact n h in omega (arith, d .below, d .number)
 
   -- It has every repair of the fact that is permitted.
   full-chosen : (k a : ℕ) → k < kinds → a < c .actions → permits c f k a ≡ true → chosen (isIn (full c f)) f k a ≡ true
   unfolding full chosen
   full-chosen k a hk ha h =
       let low : a < maxActions = omega arith in
+      let number : perFact * f + (perKind * k + a) ≡ numberOf f k a = omega arith in
       and-both (ltb a maxActions) (isIn (full c f) (numberOf f k a)) (lt-ltb a maxActions low)
-      (picks-all (permitted c) (perFact * f) perFact (numberOf f k a) (omega arith) (omega arith) (permitted-number c f k a hk low ∙ h))
+      (subst (λ (n : ℕ). isIn (full c f) n ≡ true) number
+      (passing-has own (perFact * f) perFact (perKind * k + a) (omega arith) (ap (permitted c) number ∙ permitted-number c f k a hk low ∙ h)))
 
   full-needs : (a : ℕ) → a < c .actions → repaired c (isIn (full c f)) .needs a f ≡ true → ⊥
   full-needs a ha h =

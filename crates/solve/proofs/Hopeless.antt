@@ -77,7 +77,7 @@ module _ (t : Task) where
           pick : (b : Bool) → someBelow missing (t .table .facts) ≡ b → Stuck t
           pick true h =
               let p = some-passes missing (t .table .facts) h in
-              let q = both (has (t .run .goal) (p .0)) (not (has (t .run .start) (p .0))) (p .1) in
+              let q = both (has (t .run .goal) (p .0)) (not (has (t .run .start) (p .0))) (p .2) in
               record { steps = e; fact = p .0; goal = q .0; absent = not-true (has (t .run .start) (p .0)) (q .1) }
           pick false h = absurd (none [] (nothing-works w e (none-passes missing (t .table .facts) h)))
 

@@ -1,4 +1,4 @@
--- Laws of the report: what one row more adds to the tally and to the room, and what the tally tells.
+-- Laws of the report: what one row more adds to the sum and to the room, and what the sum tells.
 -- Assumes nothing.
 use mathlib.Core.Bool.{Bool, true, false, cond, _||_}
 use mathlib.Core.List.{List, _++_}
@@ -8,25 +8,25 @@ use native.Mathlib.Omega.{arith}
 use lib.Dec.{eqb, leb, ltb}
 use lib.ListN.{length, getD, take, drop, length-append, length-drop}
 use lib.Seq.{getD-take, getD-drop, ext-getD, length-take-le, take-append-seam, drop-append-add, drop-drop}
-use borrow.Author.Tests.{eqb-true, eqb-false, leb-true, leb-false, le-leb, lt-leb}
+use borrow.Author.Tests.{eqb-true, eqb-false, leb-true, leb-false, le-leb, lt-leb, lt-ltb, le-ltb}
 use Rattle.search.specs.Rows.{rowOver, rowHopeless, verdictIn}
-use Rattle.table.specs.Counting.{someBelow}
+use Rattle.table.specs.Counting.{someBelow, firstWhere}
 use Rattle.table.specs.Answer.{Verdict, found, over, hopeless}
-use Rattle.table.specs.Join.{isHopeless, isOver, foundList, joinLists, joinVerdicts}
+use Rattle.table.specs.Join.{isHopeless, isOver, foundList, joinLists, Joined, no-list, beyond, in-order, joinRows, readAgainst, joinVerdicts}
 use Rattle.table.specs.Refusals.{accepted, noListWorks, overTheLimit, roomTooShort}
 use Rattle.table.specs.Sizes.{maxFacts, maxRow, rowPlaces}
 use Rattle.table.proofs.FlagLaws.{by-order}
-use Rattle.table.proofs.CountingLaws.{someBelow-first, someBelow-next}
+use Rattle.table.proofs.CountingLaws.{someBelow-first, someBelow-next, firstWhere-zero, firstWhere-next}
 use Rattle.table.proofs.GatherLaws.{gather-zero, gather-step, gather-part}
 use Rattle.solve.specs.Copies.{pasted}
-use Rattle.solve.specs.Reports.{tallyOf}
+use Rattle.solve.specs.Reports.{sumOf}
 use Rattle.solve.specs.Solving.{told}
 use Rattle.table.specs.Outcomes.{Outcome, refused, given}
 use Rattle.table.proofs.OutcomeLaws.{given-short, given-whole}
 use Rattle.solve.specs.Tables.{rowAt, verdictAt, repairsIn, Readable}
-use Rattle.solve.specs.declared.report.Tally.{Tally}
+use Rattle.solve.specs.declared.report.Sum.{Sum}
 use Rattle.solve.proofs.CopyLaws.{pasted-length}
-use Rattle.solve.proofs.RowLaws.{row-number, row-length}
+use Rattle.solve.proofs.TableLaws.{row-number, row-length}
 
 -- ---- what the first number of a row says
 
@@ -105,22 +105,22 @@ module _ (s : List ℕ) (n : ℕ) (low : n ≤ maxFacts) (r : Readable s n) (f :
       length-take-le (repairsIn (rowAt s f)) (drop (rowPlaces * f + 1) s)
       (omega (arith, repairs-low (rowAt s f), length-drop (rowPlaces * f + 1) s, r .places))
 
--- ---- the tally, row by row
+-- ---- the sum, row by row
 
--- The rows below f are tallied: one of them says 8, one says 7, and the sum of their lengths.
-pub record Tallied (s : List ℕ) (n : ℕ) (a b : Bool) (m f : ℕ) : Type 0 where
+-- The rows below f are summed: one of them says 8, the first that says 7, and the sum of their lengths.
+pub record Summed (s : List ℕ) (n : ℕ) (a : Bool) (b m f : ℕ) : Type 0 where
   pub low : f ≤ n
   pub hopeless : a ≡ someBelow (λ g. isHopeless (verdictAt s g)) f
-  pub over : b ≡ someBelow (λ g. isOver (verdictAt s g)) f
+  pub beyond : b ≡ firstWhere (λ g. isOver (verdictAt s g)) f
   pub total : m ≡ length (joinLists (verdictAt s) f)
   pub bound : m ≤ maxRow * f
 
 module _ (s : List ℕ) (n : ℕ) where
-  pub tallied-none : Tallied s n false false 0 0
-  tallied-none = record {
+  pub summed-none : Summed s n false 0 0 0
+  summed-none = record {
     low = omega arith;
     hopeless = sym (someBelow-first (λ g. isHopeless (verdictAt s g)));
-    over = sym (someBelow-first (λ g. isOver (verdictAt s g)));
+    beyond = firstWhere-zero (λ g. isOver (verdictAt s g));
     total = sym (ap length (gather-zero (λ g. foundList (verdictAt s g))));
     bound = omega arith;
   }
@@ -132,28 +132,28 @@ module _ (s : List ℕ) (n : ℕ) where
       ap length (gather-step (λ g. foundList (verdictAt s g)) f) ∙ length-append (joinLists (verdictAt s) f) (foundList (verdictAt s f)) ∙
       ap (λ (k : ℕ). length (joinLists (verdictAt s) f) + k) (listed-length s n low r f h)
 
-  pub tallied-more : n ≤ maxFacts → Readable s n → (a b : Bool) (m f first count : ℕ) → f < n → first ≡ getD (rowAt s f) 0 0
-      → count ≡ repairsIn (rowAt s f) → Tallied s n a b m f
-      → Tallied s n (a || eqb first rowHopeless) (b || eqb first rowOver) (m + count) (f + 1)
-  tallied-more low r a b m f first count h e d t =
+  pub summed-more : n ≤ maxFacts → Readable s n → (a : Bool) (b m f first next count : ℕ) → f < n → first ≡ getD (rowAt s f) 0 0
+      → next ≡ cond (eqb b f) (cond (eqb first rowOver) f (f + 1)) b → count ≡ repairsIn (rowAt s f) → Summed s n a b m f
+      → Summed s n (a || eqb first rowHopeless) next (m + count) (f + 1)
+  summed-more low r a b m f first next count h e k d t =
       let p : eqb first rowHopeless ≡ isHopeless (verdictAt s f) =
       ap (λ (x : ℕ). eqb x rowHopeless) e ∙ sym (row-hopeless (rowAt s f)) in
       let q : eqb first rowOver ≡ isOver (verdictAt s f) = ap (λ (x : ℕ). eqb x rowOver) e ∙ sym (row-over (rowAt s f)) in
       record {
         low = omega arith;
         hopeless = (λ j. t .hopeless j || p j) ∙ sym (someBelow-next (λ g. isHopeless (verdictAt s g)) f);
-        over = (λ j. t .over j || q j) ∙ sym (someBelow-next (λ g. isOver (verdictAt s g)) f);
+        beyond = k ∙ (λ j. cond (eqb (t .beyond j) f) (cond (q j) f (f + 1)) (t .beyond j)) ∙ sym (firstWhere-next (λ g. isOver (verdictAt s g)) f);
         total = (λ j. t .total j + d j) ∙ sym (joined-length low r f h);
         bound = omega (arith, repairs-low (rowAt s f), t .bound);
       }
 
-  pub tallied-end : (a b : Bool) (m f : ℕ) → n ≤ f → Tallied s n a b m f
-      → _≡_ {A = Tally} (record { hopeless = a; over = b; total = m }) (tallyOf s n)
-  unfolding tallyOf
-  tallied-end a b m f h t =
+  pub summed-end : (a : Bool) (b m f : ℕ) → n ≤ f → Summed s n a b m f
+      → _≡_ {A = Sum} (record { hopeless = a; beyond = b; total = m }) (sumOf s n)
+  unfolding sumOf
+  summed-end a b m f h t =
       let e : f ≡ n = omega (arith, t .low) in
-      let q = subst (λ (g : ℕ). Tallied s n a b m g) e t in
-      λ j. record { hopeless = q .hopeless j; over = q .over j; total = q .total j }
+      let q = subst (λ (g : ℕ). Summed s n a b m g) e t in
+      λ j. record { hopeless = q .hopeless j; beyond = q .beyond j; total = q .total j }
 
 -- ---- the lists, one after another into the room
 
@@ -212,47 +212,61 @@ module _ (s : List ℕ) (n : ℕ) (before : List ℕ) where
       let e : f ≡ n = omega (arith, t .low) in
       subst (λ (g : ℕ). Listed s n before after at g) e t .room
 
--- ---- what the tally tells
+-- ---- what the sum tells
 
-module _ (s : List ℕ) (n limit : ℕ) (room : List ℕ) (y : Tally) (e : y ≡ tallyOf s n) where
+module _ (s : List ℕ) (n limit : ℕ) (room : List ℕ) (y : Sum) (e : y ≡ sumOf s n) where
   some-hopeless : y .hopeless ≡ someBelow (λ f. isHopeless (verdictAt s f)) n
-  unfolding tallyOf
-  some-hopeless = ap (λ (x : Tally). x .hopeless) e
+  unfolding sumOf
+  some-hopeless = ap (λ (x : Sum). x .hopeless) e
 
-  some-over : y .over ≡ someBelow (λ f. isOver (verdictAt s f)) n
-  unfolding tallyOf
-  some-over = ap (λ (x : Tally). x .over) e
+  first-beyond : y .beyond ≡ firstWhere (λ f. isOver (verdictAt s f)) n
+  unfolding sumOf
+  first-beyond = ap (λ (x : Sum). x .beyond) e
 
-  pub tally-total : y .total ≡ length (joinLists (verdictAt s) n)
-  unfolding tallyOf
-  tally-total = ap (λ (x : Tally). x .total) e
+  pub sum-total : y .total ≡ length (joinLists (verdictAt s) n)
+  unfolding sumOf
+  sum-total = ap (λ (x : Sum). x .total) e
 
-  tally-over : (y .over || ltb limit (y .total)) ≡
-      (someBelow (λ f. isOver (verdictAt s f)) n || ltb limit (length (joinLists (verdictAt s) n)))
-  tally-over = λ j. some-over j || ltb limit (tally-total j)
+  -- What the rows join to, by the sum's three numbers.
+  abbrev byNumbers : Bool → ℕ → ℕ → Verdict
+  byNumbers a b m =
+      cond {A = Verdict} a hopeless (cond {A = Verdict} (ltb b n || ltb limit m) over (found (joinLists (verdictAt s) n)))
+
+  sum-says : joinVerdicts (verdictAt s) n limit ≡ byNumbers (y .hopeless) (y .beyond) (y .total)
+  unfolding joinRows readAgainst
+  sum-says =
+      pick (someBelow (λ f. isHopeless (verdictAt s f)) n) (firstWhere (λ f. isOver (verdictAt s f)) n) ∙
+      (λ j. byNumbers (sym some-hopeless j) (sym first-beyond j) (sym sum-total j))
+    where
+      pick : (a : Bool) (b : ℕ)
+          → readAgainst limit (cond {A = Joined} a no-list (cond {A = Joined} (ltb b n) (beyond b) (in-order (joinLists (verdictAt s) n)))) ≡
+          byNumbers a b (length (joinLists (verdictAt s) n))
+      pick true b = refl
+      pick false b = by-order b n (λ l. rw (lt-ltb b n l)) (λ l. rw (le-ltb b n l))
+
+  abbrev pub isBeyond : Bool
+  isBeyond = ltb (y .beyond) n || ltb limit (y .total)
 
   pub told-hopeless : y .hopeless ≡ true → told (joinVerdicts (verdictAt s) n limit) room ≡ refused noListWorks room
-  unfolding told joinVerdicts
-  told-hopeless h = rw (sym some-hopeless ∙ h)
+  unfolding told
+  told-hopeless h = ap (λ (v : Verdict). told v room) sum-says ∙ rw h
 
-  pub told-over : y .hopeless ≡ false → (y .over || ltb limit (y .total)) ≡ true
-      → told (joinVerdicts (verdictAt s) n limit) room ≡ refused overTheLimit room
-  unfolding told joinVerdicts
-  told-over h k = rw (sym some-hopeless ∙ h, sym tally-over ∙ k)
+  pub told-over : y .hopeless ≡ false → isBeyond ≡ true → told (joinVerdicts (verdictAt s) n limit) room ≡ refused overTheLimit room
+  unfolding told
+  told-over h k = ap (λ (v : Verdict). told v room) sum-says ∙ rw (h, k)
 
   -- No row says 7 or 8, and the lengths sum to no more than the limit: the joined list is given.
-  told-given : y .hopeless ≡ false → (y .over || ltb limit (y .total)) ≡ false
-      → told (joinVerdicts (verdictAt s) n limit) room ≡ given (joinLists (verdictAt s) n) room
-  unfolding told joinVerdicts
-  told-given h k = rw (sym some-hopeless ∙ h, sym tally-over ∙ k)
+  told-given : y .hopeless ≡ false → isBeyond ≡ false → told (joinVerdicts (verdictAt s) n limit) room ≡ given (joinLists (verdictAt s) n) room
+  unfolding told
+  told-given h k = ap (λ (v : Verdict). told v room) sum-says ∙ rw (h, k)
 
-  pub told-short : y .hopeless ≡ false → (y .over || ltb limit (y .total)) ≡ false → length room < y .total
+  pub told-short : y .hopeless ≡ false → isBeyond ≡ false → length room < y .total
       → told (joinVerdicts (verdictAt s) n limit) room ≡ refused roomTooShort room
-  told-short h k l = told-given h k ∙ given-short (joinLists (verdictAt s) n) room (omega (arith, tally-total))
+  told-short h k l = told-given h k ∙ given-short (joinLists (verdictAt s) n) room (omega (arith, sum-total))
 
-  pub answered-told : y .hopeless ≡ false → (y .over || ltb limit (y .total)) ≡ false → y .total ≤ length room → (after : List ℕ)
+  pub answered-told : y .hopeless ≡ false → isBeyond ≡ false → y .total ≤ length room → (after : List ℕ)
       → after ≡ joinLists (verdictAt s) n ++ drop (length (joinLists (verdictAt s) n)) room
       → _≡_ {A = Outcome} (record { reply = record { number = accepted; place = 0; length = y .total }; room = after })
       (told (joinVerdicts (verdictAt s) n limit) room)
   answered-told h k l after w =
-      given-whole (joinLists (verdictAt s) n) room after (y .total) (omega (arith, tally-total)) tally-total w ∙ sym (told-given h k)
+      given-whole (joinLists (verdictAt s) n) room after (y .total) (omega (arith, sum-total)) sum-total w ∙ sym (told-given h k)

@@ -12,19 +12,19 @@ use Rattle.table.proofs.AnswerLaws.{within-unique}
 use Rattle.table.proofs.Formation.{well-formed}
 use Rattle.solve.specs.Solving.{told, Solves}
 use Rattle.table.specs.Outcomes.{Outcome, refused}
-use Rattle.solve.specs.Tables.{verdictAt, Stored}
-use Rattle.solve.proofs.RowLaws.{stored-within}
+use Rattle.solve.specs.Tables.{verdictAt, RightRows}
+use Rattle.solve.proofs.TableLaws.{right-within}
 
 module _ (t : Task) (room : List ℕ) where
   pub solves-malformed : (o : Outcome) → formed t ≡ false → o ≡ refused notWellFormed room → Solves t room o
   solves-malformed o h e = record { malformed = λ k. e; verdict = λ k. absurd (true≢false (sym k ∙ h)) }
 
   -- The rows of a well-formed task, joined and told, are the solve.
-  pub solves-told : WellFormed t → (s : List ℕ) → Stored t s → (o : Outcome)
+  pub solves-told : WellFormed t → (s : List ℕ) → RightRows t s → (o : Outcome)
       → o ≡ told (joinVerdicts (verdictAt s) (t .table .facts) (t .table .limit)) room → Solves t room o
   solves-told w s b o e = record {
     malformed = λ k. absurd (true≢false (sym (well-formed t w) ∙ k));
-    verdict = λ k. (joinVerdicts (verdictAt s) (t .table .facts) (t .table .limit), stored-within t w s b, e);
+    verdict = λ k. (joinVerdicts (verdictAt s) (t .table .facts) (t .table .limit), right-within t w s b, e);
   }
 
   -- Two outcomes that meet the promise are equal.

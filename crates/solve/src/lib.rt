@@ -2,9 +2,10 @@
 mod copying;
 pub mod report;
 pub mod rows;
+mod wrong;
 
+use table::ALL_ROWS;
 use table::Reply;
-use table::SESSION_PLACES;
 use table::Task;
 use table::UNUSED;
 use table::refusals;
@@ -17,7 +18,7 @@ pub fn solve(t: Task, room: &mut [u16]) -> Reply
     if !table::formed::is_formed(t) {
         return table::refusal(refusals::NOT_WELL_FORMED);
     }
-    let mut table = [UNUSED; SESSION_PLACES];
+    let mut table = [UNUSED; ALL_ROWS];
     rows::fill(t, &mut table);
     report::report(t, &table, room)
 }

@@ -1,6 +1,6 @@
 // Reading the list off the session table: "Listing joins the rows in order of fact: refusal 9 if a row says 8; else 10 if
 // a row says 7 or the lengths sum to more than L; else the joined list" (document 01, "The session table"). The rows are
-// tallied first, so that a refusal writes nothing.
+// summed first and the limit is read afterwards, so that a refusal writes nothing.
 use crate::copying;
 use search::row;
 use table::ROW;
@@ -9,22 +9,26 @@ use table::Reply;
 use table::Task;
 use table::refusal;
 use table::refusals;
+ghost use mathlib.Core.Bool.{cond};
 ghost use mathlib.Core.List.{_++_};
 ghost use mathlib.Core.Path.{_≡_};
-ghost use Prim.Native.Nat.{_≤_};
+ghost use Prim.Native.Nat.{_+_, _<_, _≤_};
+ghost use lib.Dec.{eqb};
 ghost use lib.ListN.{length, getD, drop};
 ghost use Rattle.table.specs.Join.{joinLists, joinVerdicts};
 ghost use Rattle.table.specs.Sizes.{maxFacts};
 ghost use Rattle.table.specs.Tasks.{WellFormed};
-ghost use Rattle.solve.specs.Reports.{tallyOf};
+ghost use Rattle.search.specs.Rows.{rowOver};
+ghost use Rattle.solve.specs.Reports.{sumOf};
 ghost use Rattle.solve.specs.Solving.{told};
 ghost use Rattle.table.specs.Outcomes.{Outcome};
 ghost use Rattle.solve.specs.Tables.{rowAt, verdictAt, repairsIn, Readable};
 
-// What the rows come to: does one say 8, does one say 7, and the sum of the lengths.
-struct Tally {
+// What the rows come to: does one say 8, the lowest fact whose row says 7 (their number where there is none), and the sum
+// of the lengths.
+struct Sum {
     hopeless: bool,
-    over: bool,
+    beyond: usize,
     total: usize,
 }
 
@@ -51,23 +55,35 @@ pub fn repairs_at(table: &[u16], f: usize) -> usize
     if first <= ROW { first } else { 0 }
 }
 
-fn tally_rows(table: &[u16], facts: usize) -> Tally
+// The lowest fact up to f whose row says 7; f + 1 where there is none. Below f it was `beyond`, or f if none.
+fn beyond_with(beyond: usize, f: usize, first: usize) -> usize
+    requires { ⌜ f < maxFacts ⌝ }
+    ensures { λ r. ⌜ r ≡ cond (eqb beyond f) (cond (eqb first rowOver) f (f + 1)) beyond ⌝ }
+{
+    if beyond == f {
+        if first == row::OVER { f } else { f + 1 }
+    } else {
+        beyond
+    }
+}
+
+fn sum_rows(table: &[u16], facts: usize) -> Sum
     requires { ⌜ facts ≤ maxFacts ⌝ }
     requires { ⌜ Readable (now table) facts ⌝ }
-    ensures { λ r. ⌜ r ≡ tallyOf (now (table .entry)) facts ⌝ }
+    ensures { λ r. ⌜ r ≡ sumOf (now (table .entry)) facts ⌝ }
 {
     let mut hopeless = false;
-    let mut over = false;
+    let mut beyond = 0;
     let mut total = 0;
     for f in 0..facts {
         let first = number_at(table, f, 0);
         hopeless = hopeless | (first == row::HOPELESS);
-        over = over | (first == row::OVER);
+        beyond = beyond_with(beyond, f, first);
         total = total + repairs_at(table, f);
     }
-    Tally {
+    Sum {
         hopeless,
-        over,
+        beyond,
         total,
     }
 }
@@ -100,12 +116,12 @@ pub fn report(t: Task, table: &[u16], room: &mut [u16]) -> Reply
 {
     let facts = t.table.facts;
     let limit = t.table.limit;
-    let tally = tally_rows(table, facts);
-    let total = tally.total;
-    if tally.hopeless {
+    let sum = sum_rows(table, facts);
+    let total = sum.total;
+    if sum.hopeless {
         return refusal(refusals::NO_LIST_WORKS);
     }
-    if tally.over | (limit < total) {
+    if (sum.beyond < facts) | (limit < total) {
         return refusal(refusals::OVER_THE_LIMIT);
     }
     if room.len() < total {

@@ -7,11 +7,22 @@ use native.Mathlib.Omega.{arith}
 use Rattle.change.proofs.EditLaws.{edited-exactly, edited-well}
 use Rattle.change.specs.Editing.{edited, cellInside}
 use Rattle.table.proofs.Formation.{told-formed, told-unformed, well-formed}
+use Rattle.table.proofs.Strides.{sessionPlaces-rows}
 use Rattle.table.specs.Refusals.{notWellFormed, notASession, editOutside}
 use Rattle.table.specs.Tasks.{Shaped, WellFormed}
 use Rattle.session.proofs.CallLaws.{edit-malformed, edit-not-a-session, edit-outside, edits-refused, edits-done, inside-low}
 use Rattle.session.proofs.edit.Statement.{statement}
 use Rattle.session.proofs.edit.Tie as tie
+
+-- the call's start; the three tests passed
+abbrev start : tie.After-is-formed → tie.Start
+start c = c .before .before
+
+abbrev tested : tie.Else3 → tie.Else2
+tested c = c .before .before
+
+abbrev passed : tie.After-put-row → tie.Else3
+passed c = c .before .before .before .before
 
 is-formed-requires : tie.Need-is-formed-requires
 is-formed-requires c κs = search needs
@@ -21,16 +32,16 @@ refuse-edit-requires c κs = search needs
 
 returns : tie.Need-returns
 returns c =
-    let a = c .before .before .before .before .args in
+    let a = start (c .before .before) .args in
     rw (c .refuse-edit .ensures)
     (edits-refused (a .t) (a .table .now) (a .e) notWellFormed (omega arith)
     (edit-malformed (a .t) (a .table .now) (a .e) (told-unformed (a .t) (c .before .before .is-formed .ensures) (c .before .if1 .taken))))
 
 -- the first test was passed
-well : (c : tie.Else1) → WellFormed (c .before .before .before .args .t)
+well : (c : tie.Else1) → WellFormed (start (c .before) .args .t)
 well c =
-    let shaped : Shaped (c .before .before .before .args .t) = search needs in
-    told-formed (c .before .before .before .args .t) shaped (c .before .is-formed .ensures) (c .if1 .left)
+    let shaped : Shaped (start (c .before) .args .t) = search needs in
+    told-formed (start (c .before) .args .t) shaped (c .before .is-formed .ensures) (c .if1 .left)
 
 refuse-edit-requires-2 : tie.Need-refuse-edit-requires-2
 refuse-edit-requires-2 c κs = search needs
@@ -38,7 +49,7 @@ refuse-edit-requires-2 c κs = search needs
 returns-2 : tie.Need-returns-2
 returns-2 c =
     let d = c .before .before in
-    let a = d .before .before .before .args in
+    let a = start (d .before) .args in
     rw (c .refuse-edit2 .ensures)
     (edits-refused (a .t) (a .table .now) (a .e) notASession (omega arith)
     (edit-not-a-session (a .t) (a .table .now) (a .e) (well-formed (a .t) (well d)) (c .before .if2 .taken)))
@@ -54,14 +65,14 @@ returns-3 c =
     let inside = c .before .before .is-inside in
     let e = c .before .before .before in
     let d = e .before in
-    let a = d .before .before .before .args in
+    let a = start (d .before) .args in
     rw (c .refuse-edit3 .ensures)
     (edits-refused (a .t) (a .table .now) (a .e) editOutside (omega arith)
     (edit-outside (a .t) (a .table .now) (a .e) (well-formed (a .t) (well d)) (e .if2 .left)
     (sym (inside .ensures) ∙ not-true (inside .result) (c .before .if3 .taken))))
 
 -- the third test was passed
-inside : (c : tie.Else3) → cellInside (c .before .before .before .before .before .before .args .t) (c .before .before .before .before .before .before .args .e .cell) ≡ true
+inside : (c : tie.Else3) → let a = start (tested c .before .before) .args in cellInside (a .t) (a .e .cell) ≡ true
 inside c = sym (c .before .is-inside .ensures) ∙ not-false (c .before .is-inside .result) (c .if3 .left)
 
 set-cell-requires : tie.Need-set-cell-requires
@@ -73,14 +84,14 @@ cell-fact-requires c κs = search needs
 put-row-requires : tie.Need-put-row-requires
 put-row-requires c κs =
     let g = c .before .before .before in
-    let e = g .before .before in
+    let e = tested g in
     let d = e .before in
-    let a = d .before .before .before .args in (
+    let a = start (d .before) .args in (
       subst WellFormed (sym (c .before .before .set-cell .ensures))
           (edited-well (a .t) (a .e) (edited (a .t) (a .e)) (edited-exactly (a .t) (a .e) (well d) (inside g)) (well d) (inside g)),
       (
         omega (arith, c .before .cell-fact .ensures, inside-low (a .t) (well d) (a .e .cell) (inside g)),
-        e .if2 .left,
+        omega (arith, e .if2 .left, sessionPlaces-rows),
       ),
     )
 
@@ -90,10 +101,10 @@ same-length c = search needs
 returns-4 : tie.Need-returns-4
 returns-4 c =
     let p = c .before .before in
-    let g = p .before .before .before .before in
-    let e = g .before .before in
+    let g = passed p in
+    let e = tested g in
     let d = e .before in
-    let a = d .before .before .before .args in
+    let a = start (d .before) .args in
     edits-done (a .t) (a .table .now) (a .e) (well d) (e .if2 .left) (inside g) (p .before .before .before .set-cell .ensures)
     (p .before .before .cell-fact .ensures) (p .put-row .ensures)
 

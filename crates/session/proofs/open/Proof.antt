@@ -2,11 +2,19 @@
 use borrow.Author.Needs.{needs}
 use native.Mathlib.Omega.{arith}
 use Rattle.table.proofs.Formation.{told-formed, told-unformed, well-formed}
+use Rattle.table.proofs.Strides.{sessionPlaces-rows}
 use Rattle.table.specs.Refusals.{notWellFormed, notASession}
 use Rattle.table.specs.Tasks.{Shaped, WellFormed}
 use Rattle.session.proofs.CallLaws.{open-malformed, open-not-a-session, opens-refused, opens-opened}
 use Rattle.session.proofs.open.Statement.{statement}
 use Rattle.session.proofs.open.Tie as tie
+
+-- the call's start; both tests passed
+abbrev start : tie.After-is-formed → tie.Start
+start c = c .before .before
+
+abbrev passed : tie.After-fill → tie.Else2
+passed c = c .before .before
 
 is-formed-requires : tie.Need-is-formed-requires
 is-formed-requires c κs = search needs
@@ -16,16 +24,16 @@ refusal-requires c κs = search needs
 
 returns : tie.Need-returns
 returns c =
-    let a = c .before .before .before .before .args in
+    let a = start (c .before .before) .args in
     rw (c .refusal .ensures)
     (opens-refused (a .t) (a .table .now) notWellFormed (omega arith)
     (open-malformed (a .t) (a .table .now) (told-unformed (a .t) (c .before .before .is-formed .ensures) (c .before .if1 .taken))))
 
 -- the test was passed
-well : (c : tie.Else1) → WellFormed (c .before .before .before .args .t)
+well : (c : tie.Else1) → WellFormed (start (c .before) .args .t)
 well c =
-    let shaped : Shaped (c .before .before .before .args .t) = search needs in
-    told-formed (c .before .before .before .args .t) shaped (c .before .is-formed .ensures) (c .if1 .left)
+    let shaped : Shaped (start (c .before) .args .t) = search needs in
+    told-formed (start (c .before) .args .t) shaped (c .before .is-formed .ensures) (c .if1 .left)
 
 refusal-requires-2 : tie.Need-refusal-requires-2
 refusal-requires-2 c κs = search needs
@@ -33,23 +41,23 @@ refusal-requires-2 c κs = search needs
 returns-2 : tie.Need-returns-2
 returns-2 c =
     let d = c .before .before in
-    let a = d .before .before .before .args in
+    let a = start (d .before) .args in
     rw (c .refusal2 .ensures)
     (opens-refused (a .t) (a .table .now) notASession (omega arith)
     (open-not-a-session (a .t) (a .table .now) (well-formed (a .t) (well d)) (c .before .if2 .taken)))
 
 fill-requires : tie.Need-fill-requires
-fill-requires c κs = (well (c .before .before), c .before .if2 .left)
+fill-requires c κs = (well (c .before .before), omega (arith, c .before .if2 .left, sessionPlaces-rows))
 
 same-length : tie.Need-same-length
 same-length c = search needs
 
 returns-3 : tie.Need-returns-3
 returns-3 c =
-    let e = c .before .before .before .before in
-    let d = e .before in
-    let a = d .before .before .before .args in
-    opens-opened (a .t) (a .table .now) (well-formed (a .t) (well d)) (e .if2 .left) _ (c .before .before .fill .ensures)
+    let f = c .before .before in
+    let d = passed f .before in
+    let a = start (d .before) .args in
+    opens-opened (a .t) (a .table .now) (well-formed (a .t) (well d)) (passed f .if2 .left) _ (f .fill .ensures)
 
 pub open-spec : {M : Type 1} → statement M
 open-spec =

@@ -14,15 +14,21 @@ Inv-loop table facts room₀ at₀ f₀ room at f = Listed table facts room₀ r
 abbrev μ-loop : tie.MeasureT-loop
 μ-loop table facts room₀ at₀ f₀ room at f = facts - f
 
+-- the call's start, and the turn that a row's length was read in
+abbrev start : tie.At-loop Inv-loop μ-loop → tie.Start Inv-loop μ-loop
+start c = c .before .before .before
+
+abbrev turn : tie.After-repairs-at Inv-loop μ-loop → tie.In-loop Inv-loop μ-loop
+turn c = c .before
+
 loop-holds : tie.Need-loop-holds Inv-loop μ-loop
 loop-holds c = listed-none (c .before .before .args .table .now) (c .before .before .args .facts) (c .before .before .args .room .now)
 
 -- in a turn the next list fits
 next-fits : (c : tie.In-loop Inv-loop μ-loop)
-    → c .before .loop .at + repairsIn (rowAt (c .before .before .before .before .args .table .now) (c .before .loop .f)) ≤
-    length (c .before .loop .room)
+    → c .before .loop .at + repairsIn (rowAt (start (c .before) .args .table .now) (c .before .loop .f)) ≤ length (c .before .loop .room)
 next-fits c =
-    let a = c .before .before .before .before in
+    let a = start (c .before) in
     listed-fits (a .args .table .now) (a .args .facts) (a .args .room .now) (a .pre .0) (a .pre .1 .0) (a .pre .1 .1) (c .before .loop .room)
     (c .before .loop .at) (c .before .loop .f) (omega arith) (c .before .loop .inv)
 
@@ -37,15 +43,16 @@ add-copy c = omega arith
 
 copy-requires : tie.Need-copy-requires Inv-loop μ-loop
 copy-requires c κs =
-    let a = c .before .before .before .before .before .before in (
-      omega (arith, c .before .repairs-at .ensures, repairs-low (rowAt (a .args .table .now) (c .before .before .before .loop .f)), a .pre .1 .0 .places),
-      omega (arith, c .before .repairs-at .ensures, next-fits (c .before .before)),
+    let d = turn (c .before) in
+    let a = start (d .before) in (
+      omega (arith, c .before .repairs-at .ensures, repairs-low (rowAt (a .args .table .now) (d .before .loop .f)), a .pre .1 .0 .places),
+      omega (arith, c .before .repairs-at .ensures, next-fits d),
     )
 
 add-at : tie.Need-add-at Inv-loop μ-loop
 add-at c =
     let d = c .before .before .before .before in
-    omega (arith, d .repairs-at .ensures, next-fits (d .before), d .before .before .loop .inv .places)
+    omega (arith, d .repairs-at .ensures, next-fits (turn d), turn d .before .loop .inv .places)
 
 add-f : tie.Need-add-f Inv-loop μ-loop
 add-f c = omega arith
@@ -55,18 +62,19 @@ loop-less c = omega arith
 
 loop-again : tie.Need-loop-again Inv-loop μ-loop
 loop-again c =
-    let d = c .before .before .before .before .before .before in
-    let a = d .before .before .before in
+    let count = c .before .before .before .before in
+    let d = turn count .before in
+    let a = start d in
     listed-more (a .args .table .now) (a .args .facts) (a .args .room .now) (a .pre .0) (a .pre .1 .0) (a .pre .1 .1) (d .loop .room)
-    (c .before .before .copy .last .1 .1 .1 .0) (d .loop .at) (d .loop .f) (c .before .before .before .before .repairs-at .result)
-    (omega arith) (c .before .before .before .before .repairs-at .ensures) (c .before .before .copy .ensures) (d .loop .inv)
+    (c .before .before .copy .last .1 .1 .1 .0) (d .loop .at) (d .loop .f) (count .repairs-at .result)
+    (omega arith) (count .repairs-at .ensures) (c .before .before .copy .ensures) (d .loop .inv)
 
 same-length : tie.Need-same-length Inv-loop μ-loop
 same-length c = c .before .loop .inv .places
 
 returns : tie.Need-returns Inv-loop μ-loop
 returns c =
-    let a = c .before .before .before .before .args in
+    let a = start (c .before) .args in
     listed-end (a .table .now) (a .facts) (a .room .now) (c .before .loop .room) (c .before .loop .at) (c .before .loop .f) (omega arith)
     (c .before .loop .inv)
 

@@ -1,44 +1,84 @@
--- `solve::rows::fill` meets its contract: before turn f the rows below f are the right ones. Assumes nothing.
-use mathlib.Core.Path.{sym, _∙_}
-use Prim.Native.Nat.{_-_}
+-- `solve::rows::fill` meets its contract: the rows of the facts that are not left are the right ones. Assumes nothing.
+use mathlib.Core.Bool.{false}
+use mathlib.Core.Path.{_≡_, ap, _∙_}
+use Prim.Native.Nat.{ℕ}
 use borrow.Author.Needs.{needs}
+use native.Mathlib.Nat.{pos-of-ne-zero}
 use native.Mathlib.Omega.{arith}
-use Rattle.table.specs.Sizes.{maxFacts}
-use Rattle.solve.proofs.RowLaws.{StoredBelow, stored-none, stored-more, stored-end}
+use Rattle.facts.specs.Sets.{has}
+use Rattle.facts.proofs.Laws.{has-empty}
+use Rattle.search.specs.Rows.{RightRow}
+use Rattle.solve.specs.Tables.{RowsPut}
+use Rattle.solve.proofs.TableLaws.{rows-more, rows-again, rows-filled}
+use Rattle.solve.proofs.WrongLaws.{right-emptied}
 use Rattle.solve.proofs.rows.fill.Statement.{statement}
 use Rattle.solve.proofs.rows.fill.Tie as tie
 
 abbrev Inv-loop : tie.InvT-loop
-Inv-loop t table₀ f₀ table f = StoredBelow t f table
+Inv-loop t table₀ left₀ table left = RowsPut (λ f. has left f ≡ false) (RightRow t) table₀ table
 
 abbrev μ-loop : tie.MeasureT-loop
-μ-loop t table₀ f₀ table f = maxFacts - f
+μ-loop t table₀ left₀ table left = left
+
+-- the call's start; every row empty; the wrong facts known; the turn that a row was put in
+abbrev start : tie.After-empty-rows Inv-loop μ-loop → tie.Start Inv-loop μ-loop
+start c = c .before .before .before
+
+abbrev emptied : tie.After-wrong-facts Inv-loop μ-loop → tie.After-empty-rows Inv-loop μ-loop
+emptied c = c .before .before .before
+
+abbrev known : tie.At-loop Inv-loop μ-loop → tie.After-wrong-facts Inv-loop μ-loop
+known c = c .before
+
+abbrev turn : tie.After-put-lowest Inv-loop μ-loop → tie.At-loop Inv-loop μ-loop
+turn c = c .before .before .before
+
+empty-rows-requires : tie.Need-empty-rows-requires Inv-loop μ-loop
+empty-rows-requires c κs = search needs
+
+wrong-facts-requires : tie.Need-wrong-facts-requires Inv-loop μ-loop
+wrong-facts-requires c κs = search needs
 
 loop-holds : tie.Need-loop-holds Inv-loop μ-loop
-loop-holds c = stored-none (c .before .args .t) (c .before .args .table .now) (c .before .pre .1)
+loop-holds c =
+    let e = emptied c in
+    let a = start e .args in
+    rows-again _ _ (a .table .now) (e .empty-rows .last .0)
+    (right-emptied (a .t) (a .table .now) (e .empty-rows .last .0) (c .wrong-facts .result) (c .wrong-facts .ensures) (e .empty-rows .ensures))
 
-put-row-requires : tie.Need-put-row-requires Inv-loop μ-loop
-put-row-requires c κs =
-    (c .before .before .before .before .pre .0, (search needs, c .before .before .loop .inv .places))
-
-add-f : tie.Need-add-f Inv-loop μ-loop
-add-f c = omega arith
+put-lowest-requires : tie.Need-put-lowest-requires Inv-loop μ-loop
+put-lowest-requires c κs =
+    let d = c .before .before in
+    let e = emptied (known d) in (
+      start e .pre .0,
+      (pos-of-ne-zero (c .before .loop-test .taken), omega (arith, start e .pre .1, e .empty-rows .ensures .places, d .loop .inv .places)),
+    )
 
 loop-less : tie.Need-loop-less Inv-loop μ-loop
-loop-less c = omega arith
+loop-less c = c .before .before .put-lowest .ensures .fewer
 
 loop-again : tie.Need-loop-again Inv-loop μ-loop
 loop-again c =
-    let d = c .before .before .before .before .before in
-    stored-more (d .before .before .args .t) (d .loop .f) (d .loop .table) (c .before .before .put-row .last .1 .1 .0) (omega arith)
-    (d .loop .inv) (c .before .before .put-row .ensures)
+    let w = c .before .before in
+    let d = turn w in
+    let e = emptied (known d) in
+    let got = w .put-lowest .ensures in
+    rows-more (RightRow (start e .args .t)) (e .empty-rows .last .0) (λ g. has (d .loop .left) g ≡ false)
+    (λ g. has (w .put-lowest .result) g ≡ false) (got .fact) (d .loop .table) (w .put-lowest .last .1 .1 .0) (got .others) (d .loop .inv) (got .put)
 
 same-length : tie.Need-same-length Inv-loop μ-loop
-same-length c = c .before .loop .inv .places ∙ sym (c .before .before .before .pre .1)
+same-length c =
+    let d = c .before in
+    d .loop .inv .places ∙ emptied (known d) .empty-rows .ensures .places
 
 returns : tie.Need-returns Inv-loop μ-loop
 returns c =
-    stored-end (c .before .before .before .args .t) (c .before .loop .f) (c .before .loop .table) (omega arith) (c .before .loop .inv)
+    let d = c .before in
+    let e = emptied (known d) in
+    rows-filled (start e .args .t) _ _ _ (start e .args .table .now) (e .empty-rows .last .0) (d .loop .table) (e .empty-rows .ensures) (d .loop .inv)
+    (λ f. ap (λ (m : ℕ). has m f) (c .loop-test .left) ∙ has-empty f)
 
 pub fill-spec : {M : Type 1} → statement M
-fill-spec = tie.close (tie.spec Inv-loop μ-loop loop-holds put-row-requires add-f loop-less loop-again same-length returns)
+fill-spec =
+    tie.close
+    (tie.spec Inv-loop μ-loop empty-rows-requires wrong-facts-requires loop-holds put-lowest-requires loop-less loop-again same-length returns)

@@ -12,14 +12,15 @@ use borrow.Author.Tests.{ne-eqb, eqb-true, eqb-false}
 use Rattle.search.specs.Rows.{rowOver, rowHopeless, rowOf, verdictIn, RightRow}
 use Rattle.table.specs.Answer.{Verdict, found, over, hopeless, Within}
 use Rattle.table.specs.Join.{joinVerdicts}
-use Rattle.table.specs.Sizes.{maxFacts, maxRow, rowPlaces, sessionPlaces, unused}
+use Rattle.table.specs.Sizes.{maxFacts, maxRow, rowPlaces, allRows, sessionPlaces, unused}
 use Rattle.table.specs.Tasks.{cellsOf, WorksFor, KeepsFor, WellFormed, withLimit}
 use Rattle.table.specs.declared.Task.{Task}
 use Rattle.table.proofs.AnswerLaws.{within-unique}
 use Rattle.table.proofs.FlagLaws.{by-order}
 use Rattle.table.proofs.JoinLaws.{join-for}
+use Rattle.table.proofs.Strides.{sessionPlaces-rows}
 use Rattle.solve.specs.Copies.{pasted}
-use Rattle.solve.specs.Tables.{rowAt, verdictAt, Stored, Rewritten, Readable}
+use Rattle.solve.specs.Tables.{rowAt, verdictAt, RightRows, Stored, RowPut, RowsPut, Filled, Rewritten, Readable}
 use Rattle.solve.proofs.CopyLaws.{pasted-length, pasted-before, pasted-after, pasted-at}
 
 -- ---- where the numbers of a row stand
@@ -30,12 +31,12 @@ row-number s f j h = getD-take rowPlaces (drop (rowPlaces * f) s) j 0 h ∙ getD
 pub row-length : (s : List ℕ) (f : ℕ) → rowPlaces * f + rowPlaces ≤ length s → length (rowAt s f) ≡ rowPlaces
 row-length s f h = length-take-le rowPlaces (drop (rowPlaces * f) s) (omega (arith, length-drop (rowPlaces * f) s))
 
--- Two tables with equal rows are equal.
-pub rows-equal : (s u : List ℕ) → length s ≡ sessionPlaces → length u ≡ sessionPlaces
-    → ((f : ℕ) → f < maxFacts → rowAt s f ≡ rowAt u f) → s ≡ u
-rows-equal s u p q same = ext-getD 0 s u (p ∙ sym q) (λ i h. at i (omega arith))
+-- Two tables with equal rows, and equal after them, are equal.
+pub rows-equal : (s u : List ℕ) → length s ≡ length u → ((f : ℕ) → f < maxFacts → rowAt s f ≡ rowAt u f)
+    → ((i : ℕ) → allRows ≤ i → i < length s → getD s i 0 ≡ getD u i 0) → s ≡ u
+rows-equal s u e same rest = ext-getD 0 s u e (λ i h. by-order i allRows (at i) (λ l. rest i l h))
   where
-    at : (i : ℕ) → i < sessionPlaces → getD s i 0 ≡ getD u i 0
+    at : (i : ℕ) → i < allRows → getD s i 0 ≡ getD u i 0
     at i h =
         let f : ℕ = i / rowPlaces in
         let j : ℕ = i % rowPlaces in
@@ -127,72 +128,74 @@ module _ (t : Task) (f : ℕ) where
 pub right-length : (t : Task) (f : ℕ) (row : List ℕ) → RightRow t f row → length row ≡ rowPlaces
 right-length t f row r = ap length (r .shown) ∙ row-whole (KeepsFor t f) (r .verdict) (r .within)
 
-pub right-written : (t : Task) (f : ℕ) (s row after : List ℕ) → f < maxFacts → length s ≡ sessionPlaces → RightRow t f row
-    → after ≡ pasted s (rowPlaces * f) row rowPlaces → Rewritten t f s after
-right-written t f s row after h e r w =
+pub row-written : (R : List ℕ → Type 0) (f : ℕ) (s row after : List ℕ) → f < maxFacts → allRows ≤ length s → length row ≡ rowPlaces → R row
+    → after ≡ pasted s (rowPlaces * f) row rowPlaces → RowPut R f s after
+row-written R f s row after h e whole r w =
     let fits : rowPlaces * f + rowPlaces ≤ length s = omega arith in
-    let whole = right-length t f row r in
     record {
       places = ap length w ∙ written-length s f row fits whole;
-      row = subst (λ (x : List ℕ). RightRow t f x) (sym (ap (λ (u : List ℕ). rowAt u f) w ∙ written-here s f row fits whole)) r;
+      row = subst R (sym (ap (λ (u : List ℕ). rowAt u f) w ∙ written-here s f row fits whole)) r;
       others = λ g l ne. ap (λ (u : List ℕ). rowAt u g) w ∙ written-others s f row fits whole g ne (omega arith);
+      rest = λ i l. ap (λ (u : List ℕ). getD u i 0) w ∙ pasted-after s (rowPlaces * f) row rowPlaces fits (omega arith) i (omega arith);
     }
 
 -- ---- the table filled row by row
 
--- The rows below n are the right ones.
-pub record StoredBelow (t : Task) (n : ℕ) (s : List ℕ) : Type 0 where
-  pub low : n ≤ maxFacts
-  pub places : length s ≡ sessionPlaces
-  pub rows : (f : ℕ) → f < n → RightRow t f (rowAt s f)
+module _ (R : ℕ → List ℕ → Type 0) (s : List ℕ) where
+  pub rows-none : (D : ℕ → Type 0) → ((f : ℕ) → D f → ⊥) → RowsPut D R s s
+  rows-none D none = record { places = refl; rows = λ f h d. absurd (none f d); rest = λ i h. refl }
 
-module _ (t : Task) where
-  pub stored-none : (s : List ℕ) → length s ≡ sessionPlaces → StoredBelow t 0 s
-  stored-none s e = record { low = omega arith; places = e; rows = λ f h. absurd (omega arith) }
-
-  pub stored-more : (n : ℕ) (s after : List ℕ) → n < maxFacts → StoredBelow t n s → Rewritten t n s after → StoredBelow t (n + 1) after
-  stored-more n s after h b w = record {
-    low = omega arith;
+  -- One row more: of the facts in E all but f were in D.
+  pub rows-more : (D E : ℕ → Type 0) (f : ℕ) (u after : List ℕ) → ((g : ℕ) → E g → (g ≡ f → ⊥) → D g) → RowsPut D R s u → RowPut (R f) f u after
+      → RowsPut E R s after
+  rows-more D E f u after more b w = record {
     places = w .places ∙ b .places;
-    rows = λ f k. by-order f n (λ (l : f < n). earlier f l) (λ (l : n ≤ f). last f l k);
+    rows = λ g h e. pick g h e (eqb g f) refl;
+    rest = λ i l. w .rest i l ∙ b .rest i l;
   }
     where
-      earlier : (f : ℕ) → f < n → RightRow t f (rowAt after f)
-      earlier f l =
-          subst (λ (row : List ℕ). RightRow t f row) (sym (w .others f (omega arith) (λ e. omega arith))) (b .rows f l)
+      pick : (g : ℕ) → g < maxFacts → E g → (x : Bool) → eqb g f ≡ x → R g (rowAt after g)
+      pick g h e true same = subst (λ (k : ℕ). R k (rowAt after k)) (sym (eqb-true g f same)) (w .row)
+      pick g h e false apart =
+          let ne = eqb-false g f apart in
+          subst (R g) (sym (w .others g h ne)) (b .rows g h (more g e ne))
 
-      last : (f : ℕ) → n ≤ f → f < n + 1 → RightRow t f (rowAt after f)
-      last f l k =
-          let e : n ≡ f = omega arith in
-          subst (λ (g : ℕ). RightRow t g (rowAt after g)) e (w .row)
+-- Rows put into a table that was written before.
+pub rows-again : (D : ℕ → Type 0) (R : ℕ → List ℕ → Type 0) (s u : List ℕ) → RowsPut D R s u → RowsPut D R u u
+rows-again D R s u b = record { places = refl; rows = b .rows; rest = λ i h. refl }
 
-  pub stored-end : (n : ℕ) (s : List ℕ) → maxFacts ≤ n → StoredBelow t n s → Stored t s
-  stored-end n s h b = record { places = b .places; rows = λ f k. b .rows f (omega arith) }
+pub rows-filled : (t : Task) (D : ℕ → Type 0) (R : ℕ → List ℕ → Type 0) (E : ℕ → Type 0) (s u after : List ℕ) → RowsPut D R s u
+    → RowsPut E (RightRow t) u after → ((f : ℕ) → E f) → Filled t s after
+rows-filled t D R E s u after p q all = record {
+  places = q .places ∙ p .places;
+  rows = λ f h d. q .rows f h (all f);
+  rest = λ i h. q .rest i h ∙ p .rest i h;
+}
 
-  -- ---- what a table of right rows says
+pub filled-stored : (t : Task) (s after : List ℕ) → length s ≡ sessionPlaces → Filled t s after → Stored t after
+filled-stored t s after e b = record { places = b .places ∙ e; rows = λ f h. b .rows f h tt }
 
-  pub stored-readable : (s : List ℕ) (n : ℕ) → n ≤ maxFacts → Stored t s → Readable s n
-  stored-readable s n h b = record {
-    places = b .places;
-    firsts = λ f k. right-first t f (rowAt s f) (b .rows f (omega arith));
-  }
+module _ (t : Task) where
+  -- ---- what right rows say
+
+  pub right-readable : (s : List ℕ) (n : ℕ) → n ≤ maxFacts → allRows ≤ length s → RightRows t s → Readable s n
+  right-readable s n h l rows = record { places = l; firsts = λ f k. right-first t f (rowAt s f) (rows f (omega arith)) }
 
   -- The rows joined are the verdict over all permitted lists: each fact can be diagnosed by itself.
-  pub stored-within : WellFormed t → (s : List ℕ) → Stored t s
+  pub right-within : WellFormed t → (s : List ℕ) → RightRows t s
       → Within (WorksFor t) (t .table .limit) (joinVerdicts (verdictAt s) (t .table .facts) (t .table .limit))
-  stored-within w s b =
-      join-for t w (verdictAt s) maxRow (t .table .limit) (w .limit-high)
-      (λ f h. right-verdict t f (rowAt s f) (b .rows f (omega (arith, w .facts-high))))
+  right-within w s rows =
+      join-for t w (verdictAt s) (λ f h. right-verdict t f (rowAt s f) (rows f (omega (arith, w .facts-high))))
 
   -- There is one such table, and one that an edit of one row leaves.
   pub stored-unique : (s u : List ℕ) → Stored t s → Stored t u → s ≡ u
   stored-unique s u p q =
-      rows-equal s u (p .places) (q .places) (λ f h. right-unique t f (rowAt s f) (rowAt u f) (p .rows f h) (q .rows f h))
+      rows-equal s u (p .places ∙ sym (q .places)) (λ f h. right-unique t f (rowAt s f) (rowAt u f) (p .rows f h) (q .rows f h))
+      (λ i h l. absurd (omega (arith, p .places, sessionPlaces-rows)))
 
-  pub rewritten-unique : (f : ℕ) (s after other : List ℕ) → length s ≡ sessionPlaces → Rewritten t f s after → Rewritten t f s other
-      → after ≡ other
-  rewritten-unique f s after other e p q =
-      rows-equal after other (p .places ∙ e) (q .places ∙ e) (λ g h. pick g h (eqb g f) refl)
+  pub rewritten-unique : (f : ℕ) (s after other : List ℕ) → Rewritten t f s after → Rewritten t f s other → after ≡ other
+  rewritten-unique f s after other p q =
+      rows-equal after other (p .places ∙ sym (q .places)) (λ g h. pick g h (eqb g f) refl) (λ i h l. p .rest i h ∙ sym (q .rest i h))
     where
       pick : (g : ℕ) → g < maxFacts → (b : Bool) → eqb g f ≡ b → rowAt after g ≡ rowAt other g
       pick g h true same =

@@ -30,7 +30,7 @@ use Rattle.table.specs.declared.Task.{Task}
 use Rattle.session.proofs.CallLaws.{open-clear, edit-clear, edit-outside}
 use Rattle.session.proofs.FormLaws.{stored-in-form}
 use Rattle.session.specs.Calls.{Opens, listed, Story, told-all, then, Made, made-none, made-set, made-refused, names}
-use Rattle.session.specs.declared.Edited.{Edited}
+use Rattle.table.specs.declared.TaskReply.{TaskReply}
 
 -- ---- one edit keeps every row right
 
@@ -83,7 +83,7 @@ pub record Ends (t : Task) (s : List ℕ) (es : List Edit) (u : Task) (end : Lis
   pub stored : Stored u end
   pub kept : (f : ℕ) → f < maxFacts → names t es f ≡ false → rowAt end f ≡ rowAt s f
 
-module _ (t : Task) (s : List ℕ) (e : Edit) (es : List Edit) (r : Edited) (after : List ℕ) (u : Task) (end : List ℕ) where
+module _ (t : Task) (s : List ℕ) (e : Edit) (es : List Edit) (r : TaskReply) (after : List ℕ) (u : Task) (end : List ℕ) where
   ends-accepted : cellInside t (e .cell) ≡ true → EditedTo t e (r .task) → Rewritten (r .task) (cellFact (e .cell)) s after
       → Ends (r .task) after es u end → Ends t s (e ∷ es) u end
   unfolding names
@@ -136,7 +136,7 @@ story-ends t s (e ∷ es) u end w b (then {r = r} {after = after} a story) =
 pub listing-solves : (u : Task) (end room : List ℕ) → WellFormed u → Stored u end → Solves u room (listed u end room)
 unfolding listed
 listing-solves u end room w b =
-    solves-told u room w end b (listed u end room) (rw (well-formed u w, stored-in-form u w end b))
+    solves-told u room w end (b .rows) (listed u end room) (rw (well-formed u w, stored-in-form u w end b))
 
 -- ---- demand 3
 

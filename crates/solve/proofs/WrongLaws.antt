@@ -1,0 +1,143 @@
+-- Laws of the pass that says which facts are wrong: before step i the state's mask is the run's state there, and a fact that was absent where a
+-- step before i needs it is noted. Assumes nothing.
+use mathlib.Core.Bool.{Bool, true, false, not, _&&_, _||_, and-true, true≢false}
+use mathlib.Core.List.{List, []}
+use mathlib.Core.Path.{_≡_, refl, sym, ap, _∙_, subst}
+use Prim.Native.Nat.{ℕ, _+_, _^_, _<_, _≤_}
+use native.Mathlib.Nat.{pos-of-ne-zero}
+use native.Mathlib.Omega.{arith}
+use lib.Bits.{bitAnd}
+use lib.ListN.{getD}
+use borrow.Author.Tests.{not-false, eq-eqb, ne-eqb}
+use Rattle.facts.specs.Sets.{width, has, only, joined, shared, removed, lowest}
+use Rattle.facts.proofs.Counting.{lowest-has}
+use Rattle.facts.proofs.Laws.{has-empty, has-joined, has-shared, has-removed, has-only, has-without, within-below, lt-within}
+use Rattle.search.specs.Rows.{rowOf, RightRow}
+use Rattle.table.specs.Answer.{found}
+use Rattle.table.specs.Counting.{everyBelow}
+use Rattle.table.specs.Deciding.{isRight}
+use Rattle.table.specs.Strips.{stateAt}
+use Rattle.table.specs.Tasks.{cellsOf, courseOf}
+use Rattle.table.specs.declared.Task.{Task}
+use Rattle.table.proofs.CountingLaws.{everyBelow-none, everyBelow-next}
+use Rattle.table.proofs.DecidingLaws.{is-right}
+use Rattle.table.proofs.JoinLaws.{keeps-right}
+use Rattle.table.proofs.RunLaws.{stateAt-first, stateAt-next}
+use Rattle.solve.specs.Tables.{emptyRow, RowPut, RowsPut, Emptied}
+use Rattle.solve.specs.Wrong.{WrongFacts, Taken}
+
+-- absent where it is needed
+missed : (before needed present : Bool) → (not before || (needed && not present)) ≡ not (before && (not needed || present))
+missed true true p = refl
+missed true false p = refl
+missed false n p = refl
+
+module _ (t : Task) where
+  -- Fact f is there for step i, if the step needs it.
+  abbrev thereAt : ℕ → ℕ → Bool
+  thereAt f i =
+      not (cellsOf (t .table) .needs (courseOf (t .run) .step i) f) || stateAt (cellsOf (t .table)) (courseOf (t .run)) i f
+
+  -- The pass is before step i, with the masks m of the state and w of the facts noted.
+  pub record Passed (m w i : ℕ) : Type 0 where
+    pub low : i ≤ t .run .count
+    pub state : (f : ℕ) → has m f ≡ stateAt (cellsOf (t .table)) (courseOf (t .run)) i f
+    pub wrong : (f : ℕ) → has w f ≡ not (everyBelow (thereAt f) i)
+
+  pub passed-none : Passed (t .run .start) 0 0
+  unfolding courseOf
+  passed-none = record {
+    low = omega arith;
+    state = λ f. sym (stateAt-first (cellsOf (t .table)) (courseOf (t .run)) f);
+    wrong = λ f. has-empty f ∙ ap not (everyBelow-none (thereAt f));
+  }
+
+  -- What a mask of needs, or of goals, adds to the wrong facts.
+  noted : (needs state wrong absent next : ℕ) → absent ≡ removed needs state → next ≡ joined wrong absent → (f : ℕ)
+      → has next f ≡ (has wrong f || (has needs f && not (has state f)))
+  noted needs state wrong absent next a n f =
+      ap (λ (m : ℕ). has m f) n ∙ has-joined wrong absent f ∙
+      ap (λ (b : Bool). has wrong f || b) (ap (λ (m : ℕ). has m f) a ∙ has-removed needs state f)
+
+  pub passed-more : (state wrong i absent next held after : ℕ) → i < t .run .count
+      → absent ≡ removed (getD (t .table .needs) (getD (t .run .steps) i 0) 0) state → next ≡ joined wrong absent
+      → held ≡ removed state (getD (t .table .deletes) (getD (t .run .steps) i 0) 0)
+      → after ≡ joined held (getD (t .table .adds) (getD (t .run .steps) i 0) 0) → Passed state wrong i → Passed after next (i + 1)
+  unfolding cellsOf courseOf
+  passed-more state wrong i absent next held after h a n k e p =
+      let act = getD (t .run .steps) i 0 in
+      let needs = getD (t .table .needs) act 0 in
+      let adds = getD (t .table .adds) act 0 in
+      let deletes = getD (t .table .deletes) act 0 in
+      record {
+        low = omega arith;
+        state = λ f.
+            ap (λ (m : ℕ). has m f) e ∙ has-joined held adds f ∙
+            ap (λ (b : Bool). b || has adds f) (ap (λ (m : ℕ). has m f) k ∙ has-removed state deletes f) ∙
+            (λ j. p .state f j && not (has deletes f) || has adds f) ∙ sym (stateAt-next (cellsOf (t .table)) (courseOf (t .run)) i f);
+        wrong = λ f.
+            noted needs state wrong absent next a n f ∙ (λ j. p .wrong f j || (has needs f && not (p .state f j))) ∙
+            missed (everyBelow (thereAt f) i) (has needs f) (stateAt (cellsOf (t .table)) (courseOf (t .run)) i f) ∙
+            ap not (sym (everyBelow-next (thereAt f) i));
+      }
+
+  pub passed-end : (state wrong i absent next : ℕ) → t .run .count ≤ i → absent ≡ removed (t .run .goal) state → next ≡ joined wrong absent
+      → Passed state wrong i → WrongFacts t next
+  unfolding cellsOf courseOf isRight
+  passed-end state wrong i absent next h a n p f =
+      let last : i ≡ t .run .count = omega (arith, p .low) in
+      let q = subst (λ (j : ℕ). Passed state wrong j) last p in
+      noted (t .run .goal) state wrong absent next a n f ∙ (λ j. q .wrong f j || (has (t .run .goal) f && not (q .state f j))) ∙
+      missed (everyBelow (thereAt f) (t .run .count)) (has (t .run .goal) f)
+      (stateAt (cellsOf (t .table)) (courseOf (t .run)) (t .run .count) f)
+
+  -- A fact that is right as it stands has the row without repairs.
+  pub right-empty : (wrong : ℕ) → WrongFacts t wrong → (f : ℕ) → has wrong f ≡ false → RightRow t f emptyRow
+  unfolding rowOf
+  right-empty wrong e f h =
+      let right =
+      is-right (cellsOf (t .table)) (courseOf (t .run)) f (not-false (isRight (cellsOf (t .table)) (courseOf (t .run)) f) (sym (e f) ∙ h)) in
+      record { verdict = found []; within = (keeps-right (cellsOf (t .table)) (courseOf (t .run)) f right, omega arith); shown = refl }
+
+  -- ---- the rows of the wrong facts, one after another
+
+  -- Every row empty: those of the right facts are right.
+  pub right-emptied : (s u : List ℕ) (wrong : ℕ) → WrongFacts t wrong → Emptied s u → RowsPut (λ f. has wrong f ≡ false) (RightRow t) s u
+  right-emptied s u wrong known e = record {
+    places = e .places;
+    rows = λ f h right. subst (RightRow t f) (sym (e .rows f h tt)) (right-empty wrong known f right);
+    rest = e .rest;
+  }
+
+-- The lowest fact of a mask, and the mask without it.
+module _ (m : ℕ) (some : 0 < m) (small : m < 2 ^ width) where
+  here : has m (lowest m) ≡ true
+  here = lowest-has m some small
+
+  pub lowest-low : lowest m < width
+  lowest-low = within-below m width (lowest m) (lt-within m width small) here
+
+  without-less : removed m (only (lowest m)) < m
+  unfolding removed shared
+  without-less =
+      let part : bitAnd m (only (lowest m)) ≡ 0 → ⊥ =
+      λ e.
+      true≢false
+      (sym (has-shared m (only (lowest m)) (lowest m) ∙ rw (here, has-only (lowest m) (lowest m) lowest-low, eq-eqb (lowest m) (lowest m) refl)) ∙
+      ap (λ (x : ℕ). has x (lowest m)) e ∙ has-empty (lowest m)) in
+      omega (arith, pos-of-ne-zero part)
+
+  without-other : (g : ℕ) → has (removed m (only (lowest m))) g ≡ false → (g ≡ lowest m → ⊥) → has m g ≡ false
+  without-other g h ne =
+      sym (and-true (has m g)) ∙ ap (λ (b : Bool). has m g && not b) (sym (ne-eqb g (lowest m) ne)) ∙ sym (has-without m (lowest m) g lowest-low) ∙ h
+
+  pub lowest-taken : (R : ℕ → List ℕ → Type 0) (s after : List ℕ) (f next : ℕ) → f ≡ lowest m → next ≡ removed m (only f) → RowPut (R f) f s after
+      → Taken R m s next after
+  lowest-taken R s after f next e n w =
+      let same : next ≡ removed m (only (lowest m)) = n ∙ ap (λ (g : ℕ). removed m (only g)) e in
+      record {
+        fact = f;
+        put = w;
+        fewer = omega (arith, same, without-less);
+        others = λ g h ne. without-other g (ap (λ (x : ℕ). has x g) (sym same) ∙ h) (λ k. ne (k ∙ sym e));
+      }
