@@ -19,12 +19,10 @@ use Rattle.table.specs.Contracts.{Call, AsksNothing}
 use Rattle.taskfile.specs.Records.{recordAt, bodyOf}
 use Rattle.taskfile.specs.declared.record.Record.{Record}
 use Rattle.recordreader.proofs.body as body
-use Rattle.recordreader.proofs.first.Reads as first
 use Rattle.recordreader.proofs.moved_on as moved-on
 use Rattle.recordreader.proofs.new as new
 use Rattle.recordreader.proofs.next as next
 use Rattle.recordreader.proofs.place_after.Reads as place-after
-use Rattle.recordreader.proofs.second.Reads as second
 use Rattle.recordreader.specs.Places.{placeAfter}
 use Rattle.recordreader.specs.declared.Reader.{Reader}
 
@@ -69,32 +67,14 @@ module _ {M : Type 1} (𝓤 : URA M) (H : Heap 𝓤) (A : Atoms 𝓤) (mem : Mem
   moved-on-asks-nothing : (a : _) (g : _) → moved-on.clauses 𝓤 H A mem run κs a .requires g ≡ connectives 𝓤 .⊤ₛ
   moved-on-asks-nothing a g = refl
 
--- ---- the functions on a plain slice
+-- ---- the function on a plain slice
 
--- The place after the record at a place of the file s is given as n; the first record of s, and the second, as r.
+-- The place after the record at a place of the file s is given as n.
 abbrev pub PlaceAfterGives : List ℕ → ℕ → ℕ → Type 0
 PlaceAfterGives s at n = Call {I = List ℕ × ℕ} {O = ℕ} place-after.Post (λ a. (now (a .0), a .1 .0)) (λ r b. r) (s, at) n
 
 pub place-after-gives : (s : List ℕ) (at n : ℕ) → PlaceAfterGives s at n → n ≡ placeAfter s at
 place-after-gives s at n = call-keeps (λ i n. n ≡ placeAfter (i .0) (i .1)) (λ k a r b p. p) (s, at) n
 
-abbrev pub FirstGives : List ℕ → Record → Type 0
-FirstGives s r = Call {I = List ℕ} {O = Record} first.Post (λ a. now (a .0)) (λ r b. r) s r
-
-pub first-gives : (s : List ℕ) (r : Record) → FirstGives s r → r ≡ recordAt s 0
-first-gives s r = call-keeps (λ s r. r ≡ recordAt s 0) (λ k a r b p. p) s r
-
-abbrev pub SecondGives : List ℕ → Record → Type 0
-SecondGives s r = Call {I = List ℕ} {O = Record} second.Post (λ a. now (a .0)) (λ r b. r) s r
-
-pub second-gives : (s : List ℕ) (r : Record) → SecondGives s r → r ≡ recordAt s (placeAfter s 0)
-second-gives s r = call-keeps (λ s r. r ≡ recordAt s (placeAfter s 0)) (λ k a r b p. p) s r
-
 pub place-after-asks-nothing : AsksNothing place-after.Pre
 place-after-asks-nothing k a = tt
-
-pub first-asks-nothing : AsksNothing first.Pre
-first-asks-nothing k a = tt
-
-pub second-asks-nothing : AsksNothing second.Pre
-second-asks-nothing k a = tt

@@ -55,16 +55,3 @@ pub fn moved_on<'a>(r: Reader<'a>) -> Reader<'a>
         at: place_after(r.file, r.at),
     }
 }
-
-// Callers with a plain slice, who need no walk: the first record of a file, and the one behind it.
-pub fn first(file: &[u8]) -> Record
-    ensures { λ f. ⌜ f ≡ recordAt (now (file .entry)) 0 ⌝ }
-{
-    next(new(file))
-}
-
-pub fn second(file: &[u8]) -> Record
-    ensures { λ f. ⌜ f ≡ recordAt (now (file .entry)) (placeAfter (now (file .entry)) 0) ⌝ }
-{
-    next(moved_on(new(file)))
-}

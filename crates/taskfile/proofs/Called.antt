@@ -11,7 +11,7 @@ use Rattle.taskfile.proofs.record.body_at.Reads as body-at
 use Rattle.taskfile.proofs.read.Reads as read
 use Rattle.taskfile.specs.Reading.{ReadsFile}
 use Rattle.taskfile.specs.Records.{recordAt, bodyOf}
-use Rattle.taskfile.specs.declared.TaskRead.{TaskRead}
+use Rattle.table.specs.declared.TaskReply.{TaskReply}
 use Rattle.taskfile.specs.declared.record.Record.{Record}
 
 -- The record of the file s at a place is given as r; its body as the bytes b, wherever they stand.
@@ -28,10 +28,10 @@ pub body-gives : (s : List ℕ) (at : ℕ) (b : List ℕ) → BodyGives s at b �
 body-gives s at b = call-keeps (λ i b. b ≡ bodyOf (i .0) (i .1)) (λ k a r b p. p) (s, at) b
 
 -- Reading the file s gives r.
-abbrev pub ReadGives : List ℕ → TaskRead → Type 0
-ReadGives s r = Call {I = List ℕ} {O = TaskRead} read.Post (λ a. now (a .0)) (λ r b. r) s r
+abbrev pub ReadGives : List ℕ → TaskReply → Type 0
+ReadGives s r = Call {I = List ℕ} {O = TaskReply} read.Post (λ a. now (a .0)) (λ r b. r) s r
 
-pub read-gives : (s : List ℕ) (r : TaskRead) → ReadGives s r → ReadsFile s r
+pub read-gives : (s : List ℕ) (r : TaskReply) → ReadGives s r → ReadsFile s r
 read-gives s r = call-keeps ReadsFile (λ k a r b p. p) s r
 
 pub record-asks-nothing : AsksNothing record-at.Pre

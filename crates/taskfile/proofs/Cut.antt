@@ -10,21 +10,21 @@ use lib.Seq.{getD-take}
 use lib.Dec.{eqb, leb, ltb}
 use borrow.Author.Tests.{lt-leb, le-ltb}
 use Rattle.table.specs.Refusals.{firstOf}
-use Rattle.taskfile.specs.declared.TaskRead.{TaskRead}
+use Rattle.table.specs.declared.TaskReply.{TaskReply}
 use Rattle.taskfile.specs.Format.{sizesKind, endKind, isCellKind, bodyLength}
-use Rattle.taskfile.specs.Reading.{Seen, kindAt, byteAt, bodyAt, nextAt, seenAfter, faultsAt, faultAt, Reads, ReadsFile, faulty, good, ended, trailing}
+use Rattle.taskfile.specs.Reading.{Seen, kindAt, byteAt, bodyAt, nextAt, seenAfter, placeOf, faultsAt, faultAt, Reads, ReadsFile, faulty, good, ended, trailing}
 use Rattle.taskfile.specs.Lengths.{longestFile, programRoom}
 use Rattle.taskfile.proofs.Unique.{reads-unique}
 use Rattle.taskfile.proofs.Function.{reads-total}
-use Rattle.taskfile.proofs.Ranks.{slots}
-use Rattle.taskfile.proofs.ReadsFile.{Sofar, begun, going, sofar-next}
+use Rattle.taskfile.proofs.Ranks.{slots, rank}
+use Rattle.taskfile.proofs.AcceptedIsFile.{Sofar, begun, going, sofar-next}
 use Rattle.taskfile.proofs.FileLength.{records-length}
 
 -- A record that has been come to starts within the longest file.
 sofar-early : {s : List ℕ} {at : ℕ} {seen : Seen} → Sofar s at seen → at < longestFile
 sofar-early begun = omega arith
 sofar-early {s} (going {at} {seen} slot stands fits bytes) =
-    let short = records-length (seen .task) (stands .formed) (suc (seen .kind * slots + slot)) (omega arith) in
+    let short = records-length (seen .task) (stands .formed) (suc (rank (seen .kind) slot)) (omega arith) in
     let long = ap length bytes in
     let taken = length-take at s in omega arith
 
@@ -53,7 +53,7 @@ same-body s q at same = rw (same .kind, same .first, same .second)
 same-faults : (s q : List ℕ) (at : ℕ) (seen : Seen) → SameAt s q at → leb (length s) at ≡ leb (length q) at
     → ltb (length s) (at + 1 + bodyLength (kindAt s at)) ≡ ltb (length q) (at + 1 + bodyLength (kindAt q at))
     → faultsAt s at seen ≡ faultsAt q at seen
-unfolding faultsAt
+unfolding faultsAt placeOf
 same-faults s q at seen same there whole =
     rw (whole, there, same-body s q at same, same .kind, same .first, same .second, same .third)
 
@@ -85,7 +85,7 @@ module _ (s : List ℕ) (at : ℕ) (full : programRoom ≤ length s) (early : at
       ∙ sym (le-ltb (length s) (at + 1 + bodyLength (kindAt s at)) (omega arith)) in
       ap firstOf (same-faults (take programRoom s) s at seen cut-same there whole)
 
-cut-from : {s : List ℕ} {r : TaskRead} {at : ℕ} {seen : Seen} → programRoom ≤ length s → Sofar s at seen → Reads s r at seen
+cut-from : {s : List ℕ} {r : TaskReply} {at : ℕ} {seen : Seen} → programRoom ≤ length s → Sofar s at seen → Reads s r at seen
     → Reads (take programRoom s) r at seen
 cut-from {s} {r} full sofar (faulty {at} {seen} f e) =
     let fault = cut-fault s at full (sofar-early sofar) seen in
@@ -106,7 +106,7 @@ cut-from {s} full sofar (trailing {at} {seen} c is more e) =
     trailing {at = at} {seen = seen} (rw fault c) (cut-same s at full early .kind ∙ is) (omega arith) e
 
 -- "later bytes can't alter its answer": reading the cut input and reading the whole give the same.
-pub cut-reads : (s : List ℕ) (r : TaskRead) → programRoom ≤ length s → ReadsFile (take programRoom s) r ↔ ReadsFile s r
+pub cut-reads : (s : List ℕ) (r : TaskReply) → programRoom ≤ length s → ReadsFile (take programRoom s) r ↔ ReadsFile s r
 cut-reads s r full = (
   λ reads. subst (ReadsFile s) (reads-unique (cut-from full begun (reads-total s)) reads) (reads-total s),
   λ reads. cut-from full begun reads,

@@ -1,7 +1,8 @@
 -- Which family a kind of record belongs to, with what the definitions give at each kind. Assumes nothing.
-use mathlib.Core.Bool.{true, false, cond}
+use mathlib.Core.Bool.{true, false, cond, false≢true}
 use mathlib.Core.List.{[]}
-use mathlib.Core.Path.{_≡_, refl}
+use mathlib.Core.Logic.{_⊎_, inl, inr}
+use mathlib.Core.Path.{_≡_, refl, ap}
 use Prim.Native.Nat.{ℕ, zero, suc, _-_, _<_, _≤_}
 use native.Mathlib.Omega.{arith}
 use lib.Dec.{eqb}
@@ -10,14 +11,15 @@ use Rattle.facts.specs.Sets.{joined, only}
 use Rattle.table.specs.Repairs.{byKind}
 use Rattle.table.specs.declared.Run.{Run}
 use Rattle.table.specs.declared.Task.{Task}
-use Rattle.taskfile.specs.Format.{sizesKind, startKind, goalKind, needKind, addKind, deleteKind, stepKind, endKind, isKind, isCellKind, isFactKind, bodyLength}
+use Rattle.taskfile.specs.Format.{sizesKind, startKind, goalKind, needKind, addKind, deleteKind, stepKind, endKind, isKind, isCellKind, isFactKind, bodyLength, positionOf}
 use Rattle.taskfile.specs.Reading.{runAfter}
+use Rattle.taskfile.proofs.PositionLaws.{within-kinds, order, position-known}
 use Rattle.taskfile.proofs.Ranks.{factSet, factPiece, cellPiece, slotPiece}
 
 -- Start or goal.
 pub record FactKind (k : ℕ) : Type 0 where
-  pub low : startKind ≤ k
-  pub high : k ≤ goalKind
+  pub low : positionOf startKind ≤ positionOf k
+  pub high : positionOf k ≤ positionOf goalKind
   pub known : isKind k ≡ true
   pub fact : isFactKind k ≡ true
   pub not-cell : isCellKind k ≡ false
@@ -28,8 +30,8 @@ pub record FactKind (k : ℕ) : Type 0 where
 
 -- Need, add or delete.
 pub record CellKind (k : ℕ) : Type 0 where
-  pub low : needKind ≤ k
-  pub high : k ≤ deleteKind
+  pub low : positionOf needKind ≤ positionOf k
+  pub high : positionOf k ≤ positionOf deleteKind
   pub known : isKind k ≡ true
   pub not-fact : isFactKind k ≡ false
   pub cell : isCellKind k ≡ true
@@ -39,18 +41,18 @@ pub record CellKind (k : ℕ) : Type 0 where
   pub mask : byKind (deleteKind - k) deleteKind addKind needKind ≡ k
 
 pub data Family (k : ℕ) : Type 0 where
-  ofNone : (sizesKind ≤ k → stepKind < k) → ((t : Task) (i : ℕ) → slotPiece t k i ≡ []) → Family k
+  ofNone : (isKind k ≡ true → k ≡ endKind) → ((t : Task) (i : ℕ) → slotPiece t k i ≡ []) → Family k
   ofSizes : k ≡ sizesKind → Family k
   ofFact : FactKind k → Family k
   ofCell : CellKind k → Family k
   ofStep : k ≡ stepKind → Family k
 
--- From start to goal the tests follow from the range; which of the two it is shows in how its set grows.
-fact-kind : (k : ℕ) → startKind ≤ k → k ≤ goalKind → isFactKind k ≡ true
+-- From start to goal the tests follow from the range; which of the two it is shows in its position and in how its set grows.
+fact-kind : (k : ℕ) → startKind ≤ k → k ≤ goalKind → positionOf startKind ≤ positionOf k → positionOf k ≤ positionOf goalKind → isFactKind k ≡ true
     → ((r : Run) (kind x : ℕ) → factSet (runAfter r kind x) k ≡ cond (eqb kind k) (joined (factSet r k) (only x)) (factSet r k))
     → FactKind k
 unfolding slotPiece isKind isCellKind bodyLength
-fact-kind k low high fact grown = record {
+fact-kind k from up low high fact grown = record {
   low = low;
   high = high;
   known = rw (le-leb sizesKind k (omega arith), le-leb k endKind (omega arith));
@@ -62,44 +64,44 @@ fact-kind k low high fact grown = record {
   grown = grown;
 }
 
--- From need to delete likewise; which of the three it is shows in its mask.
-cell-kind : (k : ℕ) → needKind ≤ k → k ≤ deleteKind → byKind (deleteKind - k) deleteKind addKind needKind ≡ k → CellKind k
+-- From need to delete likewise; which of the three it is shows in its position and its mask.
+cell-kind : (k : ℕ) → needKind ≤ k → k ≤ deleteKind → positionOf needKind ≤ positionOf k → positionOf k ≤ positionOf deleteKind → byKind (deleteKind - k) deleteKind addKind needKind ≡ k → CellKind k
 unfolding slotPiece isKind isFactKind isCellKind bodyLength
-cell-kind k low high mask = record {
+cell-kind k from up low high mask = record {
   low = low;
   high = high;
   known = rw (le-leb sizesKind k (omega arith), le-leb k endKind (omega arith));
   not-fact = rw (ne-eqb k startKind (omega arith), ne-eqb k goalKind (omega arith));
-  cell = rw (le-leb needKind k low, le-leb k deleteKind high);
+  cell = rw (le-leb needKind k from, le-leb k deleteKind up);
   not-step = ne-eqb k stepKind (omega arith);
-  length = rw (ne-eqb k sizesKind (omega arith), le-leb needKind k low, le-leb k deleteKind high);
+  length = rw (ne-eqb k sizesKind (omega arith), le-leb needKind k from, le-leb k deleteKind up);
   shape = λ t i.
       rw (
         ne-eqb k sizesKind (omega arith),
         ne-eqb k startKind (omega arith),
         ne-eqb k goalKind (omega arith),
-        le-leb needKind k low,
-        le-leb k deleteKind high,
+        le-leb needKind k from,
+        le-leb k deleteKind up,
       );
   mask = mask;
 }
 
 pub start-kind : FactKind startKind
 unfolding isFactKind runAfter
-start-kind = fact-kind startKind (omega arith) (omega arith) refl (λ r kind x. refl)
+start-kind = fact-kind startKind (omega arith) (omega arith) (omega (arith, order)) (omega (arith, order)) refl (λ r kind x. refl)
 
 pub goal-kind : FactKind goalKind
 unfolding isFactKind runAfter
-goal-kind = fact-kind goalKind (omega arith) (omega arith) refl (λ r kind x. refl)
+goal-kind = fact-kind goalKind (omega arith) (omega arith) (omega (arith, order)) (omega (arith, order)) refl (λ r kind x. refl)
 
 pub need-kind : CellKind needKind
-need-kind = cell-kind needKind (omega arith) (omega arith) refl
+need-kind = cell-kind needKind (omega arith) (omega arith) (omega (arith, order)) (omega (arith, order)) refl
 
 pub add-kind : CellKind addKind
-add-kind = cell-kind addKind (omega arith) (omega arith) refl
+add-kind = cell-kind addKind (omega arith) (omega arith) (omega (arith, order)) (omega (arith, order)) refl
 
 pub delete-kind : CellKind deleteKind
-delete-kind = cell-kind deleteKind (omega arith) (omega arith) refl
+delete-kind = cell-kind deleteKind (omega arith) (omega arith) (omega (arith, order)) (omega (arith, order)) refl
 
 beyond : (k : ℕ) → stepKind < k → (t : Task) (i : ℕ) → slotPiece t k i ≡ []
 unfolding slotPiece isFactKind isCellKind
@@ -113,9 +115,12 @@ beyond k l t i =
       ne-eqb k stepKind (omega arith),
     )
 
+end-kind : (k : ℕ) → stepKind < k → isKind k ≡ true → k ≡ endKind
+end-kind k l e = let range = within-kinds k e in omega arith
+
 pub family : (k : ℕ) → Family k
-unfolding slotPiece isFactKind isCellKind
-family zero = ofNone (λ l. omega arith) (λ t i. refl)
+unfolding slotPiece isKind isFactKind isCellKind
+family zero = ofNone (λ e. absurd (false≢true e)) (λ t i. refl)
 family (suc zero) = ofSizes refl
 family (suc (suc zero)) = ofFact start-kind
 family (suc (suc (suc zero))) = ofFact goal-kind
@@ -124,4 +129,17 @@ family (suc (suc (suc (suc (suc zero))))) = ofCell add-kind
 family (suc (suc (suc (suc (suc (suc zero)))))) = ofCell delete-kind
 family (suc (suc (suc (suc (suc (suc (suc zero))))))) = ofStep refl
 family (suc (suc (suc (suc (suc (suc (suc (suc k)))))))) =
-    ofNone (λ l. omega arith) (beyond (suc (suc (suc (suc (suc (suc (suc (suc k)))))))) (omega arith))
+    ofNone (end-kind (suc (suc (suc (suc (suc (suc (suc (suc k)))))))) (omega arith))
+    (beyond (suc (suc (suc (suc (suc (suc (suc (suc k)))))))) (omega arith))
+
+-- Between start and delete there are only those two families.
+pub family-between : (k : ℕ) → positionOf startKind ≤ positionOf k → positionOf k ≤ positionOf deleteKind → FactKind k ⊎ CellKind k
+family-between k l h = by (family k)
+  where
+    by : Family k → FactKind k ⊎ CellKind k
+    by (ofNone out nothing) =
+        let far = ap positionOf (out (position-known k (omega (arith, order)) (omega (arith, order)))) in absurd (omega (arith, order))
+    by (ofSizes is) = let first = ap positionOf is in absurd (omega (arith, order))
+    by (ofFact kind) = inl kind
+    by (ofCell kind) = inr kind
+    by (ofStep is) = let last = ap positionOf is in absurd (omega (arith, order))

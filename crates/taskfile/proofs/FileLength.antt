@@ -15,7 +15,7 @@ use Rattle.table.specs.declared.Task.{Task}
 use Rattle.taskfile.specs.Format.{startKind, goalKind, needKind, addKind, deleteKind, stepKind, endKind, factRecords, cellRecords, stepRecords, fileOf}
 use Rattle.taskfile.specs.Lengths.{longestFile}
 use Rattle.table.proofs.GatherLaws.{gather-length, gather-more}
-use Rattle.taskfile.proofs.Ranks.{slots, pieceAt, file-by-rank}
+use Rattle.taskfile.proofs.Ranks.{slots, ranks, pieceAt, file-by-rank}
 
 piece-length : (b : Bool) (l : List ℕ) → length (piece b l) ≤ length l
 piece-length true l = omega arith
@@ -54,15 +54,15 @@ file-length t formed =
     simp length-append (omega arith)
 
 -- The records up to any rank are shorter than the file.
-pub records-length : (t : Task) → WellFormed t → (r : ℕ) → r ≤ endKind * slots → length (gather (pieceAt t) r) < longestFile
+pub records-length : (t : Task) → WellFormed t → (r : ℕ) → r ≤ ranks → length (gather (pieceAt t) r) < longestFile
 records-length t formed r l =
-    let all : endKind * slots ≡ r + (endKind * slots - r) = omega arith in
+    let all : ranks ≡ r + (ranks - r) = omega arith in
     let file = ap length (file-by-rank t formed) in
     let most = file-length t formed in
-    let last = length-append (gather (pieceAt t) (endKind * slots)) (endKind ∷ []) in
+    let last = length-append (gather (pieceAt t) ranks) (endKind ∷ []) in
     let whole = ap (λ (n : ℕ). length (gather (pieceAt t) n)) all in
-    let parts = ap length (gather-more (pieceAt t) r (endKind * slots - r)) in
-    let sum = length-append (gather (pieceAt t) r) (gather (λ i. pieceAt t (r + i)) (endKind * slots - r)) in omega arith
+    let parts = ap length (gather-more (pieceAt t) r (ranks - r)) in
+    let sum = length-append (gather (pieceAt t) r) (gather (λ i. pieceAt t (r + i)) (ranks - r)) in omega arith
 
 -- The name's number is the document's.
 pub longest-file : longestFile ≡ 18821

@@ -15,12 +15,13 @@ use Rattle.table.specs.Tasks.{maskOf, WellFormed}
 use Rattle.table.proofs.FlagLaws.{both}
 use Rattle.table.proofs.Formation.{byKind-all}
 use Rattle.table.specs.declared.Task.{Task}
-use Rattle.taskfile.specs.Format.{sizesKind, startKind, deleteKind}
+use Rattle.taskfile.specs.Format.{sizesKind, startKind, deleteKind, stepKind}
 use Rattle.taskfile.specs.Reading.{byteRoom, Seen, noTask, nothingSeen, kindAt, byteAt, bodyAt, misplaced, sizesWrong, tableAfter, runAfter, seenAfter}
-use Rattle.taskfile.proofs.Ranks.{slots, rank, pieceAt, factPiece, cellPiece, stepPiece, sizes-once, step-shape, no-step}
+use Rattle.taskfile.proofs.Ranks.{slots, rank, kindAtRank, pieceAt, position-of, factPiece, cellPiece, stepPiece, sizes-once, step-shape, no-step}
 use Rattle.taskfile.proofs.Families.{Family, ofNone, ofSizes, ofFact, ofCell, ofStep, family}
 use Rattle.taskfile.proofs.OneMore.{taskAfter}
 use Rattle.taskfile.proofs.Clear.{Clear}
+use Rattle.taskfile.proofs.PositionLaws.{order}
 use Rattle.taskfile.proofs.Standing.{Standing}
 
 pub first-kind : (k : ℕ) → misplaced nothingSeen k ≡ false → k ≡ sizesKind
@@ -95,23 +96,26 @@ unfolding bareTask taskAfter runAfter
 bare-step f a l i = no-step (bareTask f a l) i (omega arith)
 
 bare-above : (f a l r : ℕ) → rank sizesKind 0 < r → pieceAt (bareTask f a l) r ≡ []
-bare-above f a l r h = by (family (r / slots))
+bare-above f a l r h = by (family (kindAtRank r))
   where
-    by : Family (r / slots) → pieceAt (bareTask f a l) r ≡ []
+    by : Family (kindAtRank r) → pieceAt (bareTask f a l) r ≡ []
     by (ofNone out nothing) = nothing (bareTask f a l) (r % slots)
-    by (ofSizes is) = sizes-once (bareTask f a l) r is (omega arith)
-    by (ofFact kind) = kind .shape (bareTask f a l) (r % slots) ∙ bare-fact f a l (r / slots) (r % slots)
-    by (ofCell kind) = kind .shape (bareTask f a l) (r % slots) ∙ bare-cell f a l (r / slots) (r % slots)
-    by (ofStep is) = step-shape (bareTask f a l) r (r % slots) (omega arith) (omega arith) ∙ bare-step f a l (r % slots)
+    by (ofSizes is) =
+        let position = position-of r sizesKind is (omega (arith, order)) (omega (arith, order)) in sizes-once (bareTask f a l) r is (omega arith)
+    by (ofFact kind) = kind .shape (bareTask f a l) (r % slots) ∙ bare-fact f a l (kindAtRank r) (r % slots)
+    by (ofCell kind) = kind .shape (bareTask f a l) (r % slots) ∙ bare-cell f a l (kindAtRank r) (r % slots)
+    by (ofStep is) =
+        let position = position-of r stepKind is (omega (arith, order)) (omega (arith, order)) in
+        step-shape (bareTask f a l) r (r % slots) (omega arith) (omega arith) ∙ bare-step f a l (r % slots)
 
 stands-bare : (f a l b : ℕ) → (0 < f) × (f ≤ maxFacts) × (0 < a) × (a ≤ maxActions) × (l ≤ maxLimit)
     → Standing (bareSeen f a l b) 0
 stands-bare f a l b sizes = record {
   formed = bare-formed f a l sizes;
   low = omega arith;
-  high = omega arith;
+  high = omega (arith, order);
   small = omega arith;
-  ordered = λ h _. absurd (omega arith);
+  ordered = λ h _. absurd (omega (arith, order));
   steps = λ h. absurd (omega arith);
   above = bare-above f a l;
 }

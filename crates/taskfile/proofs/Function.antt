@@ -10,13 +10,13 @@ use lib.ListN.{length}
 use borrow.Author.Tests.{eq-eqb, eqb-true, eqb-false, ltb-true, ltb-false, le-leb}
 use Rattle.table.specs.Refusals.{firstOf}
 use Rattle.taskfile.specs.Format.{endKind}
-use Rattle.taskfile.specs.Reading.{Seen, Reads, faulty, good, ended, trailing, kindAt, nextAt, seenAfter, faultsAt, faultAt, nothingSeen, ReadsFile}
+use Rattle.taskfile.specs.Reading.{Seen, Reads, faulty, good, ended, trailing, kindAt, nextAt, seenAfter, placeOf, faultsAt, faultAt, nothingSeen, ReadsFile}
 use Rattle.taskfile.specs.Computed.{readFrom, readFile}
 use Rattle.taskfile.proofs.Clear.{clear}
 
 -- At or past the end the first fault is that there is no end record.
 reads-past : (s : List ℕ) (at : ℕ) (seen : Seen) → length s ≤ at → Reads s (readFrom zero s at seen) at seen
-unfolding readFrom faultsAt firstOf
+unfolding readFrom faultsAt placeOf firstOf
 reads-past s at seen l =
     faulty {at = at} {seen = seen} (rw (le-leb (length s) at l) (omega arith)) (rw (le-leb (length s) at l))
 

@@ -1,7 +1,7 @@
 -- When a record is good: one that fits and comes later than the last, the end, and the first. Assumes nothing.
 use mathlib.Core.Bool.{Bool, true, false, _&&_, _||_, true≢false}
 use mathlib.Core.List.{List}
-use mathlib.Core.Path.{_≡_, refl, sym, _∙_}
+use mathlib.Core.Path.{_≡_, refl, sym, ap, _∙_}
 use Prim.Native.Nat.{ℕ, _+_, _<_, _≤_}
 use native.Mathlib.Omega.{arith}
 use lib.Dec.{eqb, leb}
@@ -10,12 +10,13 @@ use borrow.Author.Tests.{eqb-true, ne-eqb, le-leb, lt-leb, lt-ltb, le-ltb}
 use Rattle.table.specs.Sizes.{maxFacts, maxActions, maxSteps, maxLimit}
 use Rattle.table.specs.Tasks.{WellFormed}
 use Rattle.table.specs.declared.Task.{Task}
-use Rattle.taskfile.specs.Format.{sizesKind, startKind, deleteKind, stepKind, endKind, isKind, isCellKind, isFactKind, bodyLength}
+use Rattle.taskfile.specs.Format.{sizesKind, startKind, deleteKind, stepKind, endKind, noKind, isKind, isCellKind, isFactKind, bodyLength, positionOf}
 use Rattle.taskfile.specs.Reading.{Seen, nothingSeen, kindAt, byteAt, bodyAt, misplaced, sizesWrong, outside, disordered}
 use Rattle.taskfile.proofs.Clear.{Clear}
+use Rattle.taskfile.proofs.PositionLaws.{order, apart}
 use Rattle.taskfile.proofs.Ranks.{slots, rank}
-use Rattle.taskfile.proofs.Fitting.{Fits, factFits, cellFits, stepFits, Told, told, slotOf}
-use Rattle.taskfile.proofs.Standing.{Standing, body-slot}
+use Rattle.taskfile.proofs.Fitting.{Fits, factFits, cellFits, stepFits, Fitted, fitted, slotOf}
+use Rattle.taskfile.proofs.Standing.{Standing, some-kind, body-slot}
 
 fits-inside : (t : Task) (k x y : ℕ) → Fits t k x y → outside (t .table) k x y ≡ false
 unfolding outside isFactKind isCellKind
@@ -31,27 +32,28 @@ fits-known t k x y (factFits kind l) = kind .known
 fits-known t k x y (cellFits kind l m) = kind .known
 fits-known t k x y (stepFits is l m) = rw is
 
-ordered-range : (t : Task) (k x y : ℕ) → Fits t k x y → (isFactKind k || isCellKind k) ≡ true → (startKind ≤ k) × (k ≤ deleteKind)
+ordered-range : (t : Task) (k x y : ℕ) → Fits t k x y → (isFactKind k || isCellKind k) ≡ true
+    → (positionOf startKind ≤ positionOf k) × (positionOf k ≤ positionOf deleteKind)
 unfolding isFactKind isCellKind
-ordered-range t k x y (factFits kind l) e = (omega arith, omega arith)
-ordered-range t k x y (cellFits kind l m) e = (omega arith, omega arith)
+ordered-range t k x y (factFits kind l) e = (kind .low, omega (arith, order))
+ordered-range t k x y (cellFits kind l m) e = (omega (arith, order), kind .high)
 ordered-range t k x y (stepFits is l m) e = absurd (true≢false (sym e ∙ rw is))
 
 in-order : (seen : Seen) (slot k x y b : ℕ) → Standing seen slot → Fits (seen .task) k x y → slotOf (seen .task) k x y < slots
     → rank (seen .kind) slot < rank k (slotOf (seen .task) k x y)
-    → (startKind ≤ k → k ≤ deleteKind → slotOf (seen .task) k x y ≡ b) → disordered seen k b ≡ false
+    → (positionOf startKind ≤ positionOf k → positionOf k ≤ positionOf deleteKind → slotOf (seen .task) k x y ≡ b) → disordered seen k b ≡ false
 unfolding disordered
 in-order seen slot k x y b stands fit small later same =
-    rw (le-ltb k (seen .kind) low) (by (eqb k (seen .kind)) (isFactKind k || isCellKind k) refl refl)
+    rw (le-ltb (positionOf k) (positionOf (seen .kind)) low) (by (eqb k (seen .kind)) (isFactKind k || isCellKind k) refl refl)
   where
-    low : seen .kind ≤ k
+    low : positionOf (seen .kind) ≤ positionOf k
     low = omega arith
 
     by : (c d : Bool) → eqb k (seen .kind) ≡ c → (isFactKind k || isCellKind k) ≡ d → (c && d && leb b (seen .body)) ≡ false
     by false d e p = refl
     by true false e p = refl
     by true true e p =
-        let is = eqb-true k (seen .kind) e in
+        let is = ap positionOf (eqb-true k (seen .kind) e) in
         let range = ordered-range (seen .task) k x y fit p in
         let last = stands .ordered (omega arith) (omega arith) in
         let here = same (range .0) (range .1) in
@@ -65,12 +67,12 @@ clear-later s at seen slot stands fit whole later =
     let k = kindAt s at in
     let x = byteAt s at 0 in
     let y = byteAt s at 1 in
-    let tells = told (seen .task) k x y (stands .formed) fit in
-    let not-sizes : eqb k sizesKind ≡ false = ne-eqb k sizesKind (omega arith) in
+    let tells = fitted (seen .task) k x y (stands .formed) fit in
+    let not-sizes : eqb k sizesKind ≡ false = ne-eqb k sizesKind (apart sizesKind k (tells .later)) in
     record {
       begun = omega arith;
       known = fits-known (seen .task) k x y fit;
-      placed = rw (ne-eqb (seen .kind) 0 (omega arith)) not-sizes;
+      placed = rw (some-kind seen (stands .low)) not-sizes;
       whole = whole;
       sized = rw not-sizes;
       inside = fits-inside (seen .task) k x y fit;
@@ -78,9 +80,9 @@ clear-later s at seen slot stands fit whole later =
       room = room (eqb k stepKind) refl tells;
     }
   where
-    room : (b : Bool) → eqb (kindAt s at) stepKind ≡ b → Told (seen .task) (kindAt s at) (byteAt s at 0) (byteAt s at 1)
+    room : (b : Bool) → eqb (kindAt s at) stepKind ≡ b → Fitted (seen .task) (kindAt s at) (byteAt s at 0) (byteAt s at 1)
         → (b && leb maxSteps (seen .task .run .count)) ≡ false
-    room true e tells = lt-leb maxSteps (seen .task .run .count) (tells .room (eqb-true (kindAt s at) stepKind e))
+    room true e tells = lt-leb maxSteps (seen .task .run .count) (tells .room (ap positionOf (eqb-true (kindAt s at) stepKind e)))
     room false e tells = refl
 
 -- A good end.
@@ -89,11 +91,11 @@ unfolding misplaced isKind isFactKind isCellKind bodyLength outside disordered
 clear-end s at seen slot stands is last = record {
   begun = omega arith;
   known = rw is;
-  placed = rw (is, ne-eqb (seen .kind) 0 (omega arith));
+  placed = rw (is, some-kind seen (stands .low));
   whole = rw is (omega arith);
   sized = rw is;
   inside = rw is;
-  ordered = rw (is, le-ltb endKind (seen .kind) (omega arith), ne-eqb endKind (seen .kind) (omega arith));
+  ordered = rw (is, le-ltb (positionOf endKind) (positionOf (seen .kind)) (omega arith), ne-eqb endKind (seen .kind) (apart (seen .kind) endKind (stands .high)));
   room = rw is;
 }
 
@@ -114,6 +116,6 @@ clear-first t formed s is x y z four = record {
       (sizes-right (t .table .facts) (t .table .actions) (t .table .limit) (formed .facts-low) (formed .facts-high) (formed .actions-low)
       (formed .actions-high) (formed .limit-high));
   inside = rw is;
-  ordered = rw is;
+  ordered = rw (is, le-ltb (positionOf sizesKind) (positionOf noKind) (omega (arith, order)));
   room = rw is;
 }

@@ -1,4 +1,5 @@
 -- What other crates cite of `taskfile`: the theorems about the task file.
+pub mod PositionLaws
 pub mod RecordLaws
 pub mod ReaderLaws
 pub mod Unique
@@ -11,12 +12,12 @@ pub mod OneMore
 pub mod RecordsAfter
 pub mod Standing
 pub mod FirstRecord
-pub mod ReadsFile
+pub mod AcceptedIsFile
 pub mod SameTask
 pub mod GoodRecord
 pub mod NextRecord
-pub mod FileReads
+pub mod FileIsAccepted
 pub mod FileLength
 pub mod Cut
-pub mod Files
+pub mod FilesAreTasks
 pub mod Called

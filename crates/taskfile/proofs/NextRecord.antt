@@ -12,11 +12,12 @@ use Rattle.facts.specs.Sets.{has}
 use Rattle.facts.proofs.Laws.{has-empty}
 use Rattle.table.specs.Tasks.{WellFormed}
 use Rattle.table.specs.declared.Task.{Task}
-use Rattle.taskfile.specs.Format.{startKind, deleteKind, stepKind}
+use Rattle.taskfile.specs.Format.{startKind, deleteKind, sizesKind, stepKind, positionOf}
 use Rattle.taskfile.specs.Reading.{byteRoom, Seen}
-use Rattle.taskfile.proofs.Ranks.{slots, rank, factSet, cellSet, factPiece, cellPiece, pieceAt, sizes-once, step-shape, some-step, no-step}
+use Rattle.taskfile.proofs.Ranks.{slots, rank, factSet, cellMask, factPiece, cellPiece, kindAtRank, pieceAt, rank-position, position-of, sizes-once, step-shape, some-step, no-step}
+use Rattle.taskfile.proofs.PositionLaws.{order}
 use Rattle.taskfile.proofs.Families.{FactKind, CellKind, Family, ofNone, ofSizes, ofFact, ofCell, ofStep, family}
-use Rattle.taskfile.proofs.Fitting.{Fits, factFits, cellFits, stepFits, told, slotOf, recordBytes, fact-bytes, cell-bytes, step-bytes}
+use Rattle.taskfile.proofs.Fitting.{Fits, factFits, cellFits, stepFits, fitted, slotOf, recordBytes, fact-bytes, cell-bytes, step-bytes}
 use Rattle.table.proofs.FlagLaws.{by-order}
 use Rattle.taskfile.proofs.Standing.{Standing}
 use Rattle.taskfile.proofs.SameTask.{SameSizes}
@@ -47,7 +48,7 @@ fact-inside t formed k f e =
     out true l = formed .start-inside f l
     out false l = formed .goal-inside f l
 
-cell-inside : (t : Task) → WellFormed t → (k a f : ℕ) → has (cellSet (t .table) k a) f ≡ true → (a < t .table .actions) × (f < t .table .facts)
+cell-inside : (t : Task) → WellFormed t → (k a f : ℕ) → has (cellMask (t .table) k a) f ≡ true → (a < t .table .actions) × (f < t .table .facts)
 cell-inside t formed k a f e = (
   by-order a (t .table .actions) (λ l. l)
       (λ l. absurd (true≢false (sym e ∙ ap (λ (m : ℕ). has m f) (formed .actions-unused (deleteKind - k) a l) ∙ has-empty f))),
@@ -56,26 +57,28 @@ cell-inside t formed k a f e = (
 
 module _ (t : Task) (formed : WellFormed t) (seen : Seen) (slot r : ℕ) (stands : Standing seen slot)
     (later : rank (seen .kind) slot < r) (agrees : Agrees t seen r) where
-  look-fact : FactKind (r / slots) → (b : Bool) → has (factSet (t .run) (r / slots)) (r % slots) ≡ b → Look t seen r
+  look-fact : FactKind (kindAtRank r) → (b : Bool) → has (factSet (t .run) (kindAtRank r)) (r % slots) ≡ b → Look t seen r
   unfolding factPiece
   look-fact kind false e = absent (kind .shape t (r % slots) ∙ rw e)
   look-fact kind true e =
-      let k = r / slots in
+      let k = kindAtRank r in
+      let position = rank-position r (kind .known) in
       let i = r % slots in
       let piece-is : pieceAt t r ≡ k ∷ i ∷ [] = kind .shape t i ∙ rw e in
       let less = fact-inside t formed k i e in
       let size = agrees .sizes .facts in
       let fit : (y : ℕ) → Fits (seen .task) k i y = λ y. factFits kind (omega arith) in
       short k i piece-is (λ y.
-      let tells = told (seen .task) k i y (stands .formed) (fit y) in
+      let tells = fitted (seen .task) k i y (stands .formed) (fit y) in
       let place = tells .fact-slot (kind .high) in
       record { fit = fit y; place = omega arith; bytes = fact-bytes kind i y ∙ sym piece-is })
 
-  look-cell : CellKind (r / slots) → (b : Bool) → has (cellSet (t .table) (r / slots) (r % slots / byteRoom)) (r % slots % byteRoom) ≡ b → Look t seen r
+  look-cell : CellKind (kindAtRank r) → (b : Bool) → has (cellMask (t .table) (kindAtRank r) (r % slots / byteRoom)) (r % slots % byteRoom) ≡ b → Look t seen r
   unfolding cellPiece
   look-cell kind false e = absent (kind .shape t (r % slots) ∙ rw e)
   look-cell kind true e =
-      let k = r / slots in
+      let k = kindAtRank r in
+      let position = rank-position r (kind .known) in
       let a = r % slots / byteRoom in
       let f = r % slots % byteRoom in
       let piece-is : pieceAt t r ≡ k ∷ a ∷ f ∷ [] = kind .shape t (r % slots) ∙ rw e in
@@ -83,7 +86,7 @@ module _ (t : Task) (formed : WellFormed t) (seen : Seen) (slot r : ℕ) (stands
       let actions = agrees .sizes .actions in
       let facts = agrees .sizes .facts in
       let fit : Fits (seen .task) k a f = cellFits kind (omega arith) (omega arith) in
-      let tells = told (seen .task) k a f (stands .formed) fit in
+      let tells = fitted (seen .task) k a f (stands .formed) fit in
       let place = tells .cell-slot (kind .low) (kind .high) in
       long k a f piece-is (record { fit = fit; place = omega arith; bytes = cell-bytes kind a f ∙ sym piece-is })
 
@@ -106,10 +109,12 @@ module _ (t : Task) (formed : WellFormed t) (seen : Seen) (slot r : ℕ) (stands
       ∙ step-shape t (rank stepKind j) j refl (omega arith) ∙ some-step t j (omega arith)) in absurd (omega arith))
       (λ all. omega arith))
 
-  look-step : r / slots ≡ stepKind → (b : Bool) → ltb (r % slots) (t .run .count) ≡ b → Look t seen r
+  look-step : kindAtRank r ≡ stepKind → (b : Bool) → ltb (r % slots) (t .run .count) ≡ b → Look t seen r
   look-step is false e =
+      let position = position-of r stepKind is (omega (arith, order)) (omega (arith, order)) in
       absent (step-shape t r (r % slots) (omega arith) (omega arith) ∙ no-step t (r % slots) (ltb-false (r % slots) (t .run .count) e))
   look-step is true e =
+      let position = position-of r stepKind is (omega (arith, order)) (omega (arith, order)) in
       let i = r % slots in
       let x = getD (t .run .steps) i 0 in
       let l = ltb-true i (t .run .count) e in
@@ -120,16 +125,18 @@ module _ (t : Task) (formed : WellFormed t) (seen : Seen) (slot r : ℕ) (stands
       let count = steps-seen i (omega arith) l in
       let fit : (y : ℕ) → Fits (seen .task) stepKind x y = λ y. stepFits refl (omega arith) (omega arith) in
       short stepKind x piece-is (λ y.
-      let tells = told (seen .task) stepKind x y (stands .formed) (fit y) in
+      let tells = fitted (seen .task) stepKind x y (stands .formed) (fit y) in
       let place = tells .step-slot refl in
       record { fit = fit y; place = omega arith; bytes = step-bytes x y ∙ sym piece-is })
 
   pub look : Look t seen r
-  look = by (family (r / slots))
+  look = by (family (kindAtRank r))
     where
-      by : Family (r / slots) → Look t seen r
+      by : Family (kindAtRank r) → Look t seen r
       by (ofNone out nothing) = absent (nothing t (r % slots))
-      by (ofSizes is) = let low = stands .low in absent (sizes-once t r is (omega arith))
-      by (ofFact kind) = look-fact kind (has (factSet (t .run) (r / slots)) (r % slots)) refl
-      by (ofCell kind) = look-cell kind (has (cellSet (t .table) (r / slots) (r % slots / byteRoom)) (r % slots % byteRoom)) refl
+      by (ofSizes is) =
+          let low = stands .low in
+          let position = position-of r sizesKind is (omega (arith, order)) (omega (arith, order)) in absent (sizes-once t r is (omega arith))
+      by (ofFact kind) = look-fact kind (has (factSet (t .run) (kindAtRank r)) (r % slots)) refl
+      by (ofCell kind) = look-cell kind (has (cellMask (t .table) (kindAtRank r) (r % slots / byteRoom)) (r % slots % byteRoom)) refl
       by (ofStep is) = look-step is (ltb (r % slots) (t .run .count)) refl

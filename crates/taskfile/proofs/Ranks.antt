@@ -1,8 +1,8 @@
--- The records of a task by rank: one number for the kind and the place within the kind, in the order of the file.
+-- The records of a task by rank: one number for the kind's position and the place within the kind, in the order of the file.
 -- The file of a well-formed task is its records gathered by rank, and the end. Assumes nothing.
-use mathlib.Core.Bool.{false, cond}
+use mathlib.Core.Bool.{true, false, cond}
 use mathlib.Core.List.{List, [], _∷_, _++_}
-use mathlib.Core.Path.{_≡_, refl, ap, _∙_}
+use mathlib.Core.Path.{_≡_, refl, sym, ap, _∙_}
 use Prim.Native.Nat.{ℕ, suc, _+_, _-_, _*_, _/_, _%_, _<_, _≤_}
 use native.Mathlib.Omega.{arith}
 use lib.Dec.{eqb, ltb}
@@ -16,9 +16,10 @@ use Rattle.table.specs.Tasks.{maskOf, WellFormed}
 use Rattle.table.specs.declared.Run.{Run}
 use Rattle.table.specs.declared.Table.{Table}
 use Rattle.table.specs.declared.Task.{Task}
-use Rattle.taskfile.specs.Format.{sizesKind, startKind, goalKind, needKind, addKind, deleteKind, stepKind, endKind, isCellKind, isFactKind, factRecords, cellRecords, stepRecords, fileOf}
+use Rattle.taskfile.specs.Format.{sizesKind, startKind, goalKind, needKind, addKind, deleteKind, stepKind, endKind, noKind, isKind, isCellKind, isFactKind, positionOf, kindIn, factRecords, cellRecords, stepRecords, fileOf}
 use Rattle.taskfile.specs.Reading.{byteRoom}
-use Rattle.table.proofs.GatherLaws.{gather-same, gather-none, gather-digits, gather-next, gather-zero, gather-one, gather-eight}
+use Rattle.table.proofs.GatherLaws.{gather-same, gather-none, gather-digits, gather-next, gather-zero, gather-one}
+use Rattle.taskfile.proofs.PositionLaws.{position-known, kind-position, position-kind, none-first, in-order}
 
 -- The places of one kind, enough for an action and a byte.
 abbrev pub slots : ℕ
@@ -31,14 +32,14 @@ sizesRecord t = sizesKind ∷ t .facts ∷ t .actions ∷ t .limit ∷ []
 abbrev pub factSet : Run → ℕ → ℕ
 factSet r k = cond (eqb k startKind) (r .start) (r .goal)
 
-abbrev pub cellSet : Table → ℕ → ℕ → ℕ
-cellSet t k a = maskOf t (deleteKind - k) a
+abbrev pub cellMask : Table → ℕ → ℕ → ℕ
+cellMask t k a = maskOf t (deleteKind - k) a
 
 unfoldable pub factPiece : Task → ℕ → ℕ → List ℕ
 factPiece t k i = piece (has (factSet (t .run) k) i) (k ∷ i ∷ [])
 
 unfoldable pub cellPiece : Task → ℕ → ℕ → List ℕ
-cellPiece t k i = piece (has (cellSet (t .table) k (i / byteRoom)) (i % byteRoom)) (k ∷ i / byteRoom ∷ i % byteRoom ∷ [])
+cellPiece t k i = piece (has (cellMask (t .table) k (i / byteRoom)) (i % byteRoom)) (k ∷ i / byteRoom ∷ i % byteRoom ∷ [])
 
 unfoldable pub stepPiece : Task → ℕ → List ℕ
 stepPiece t i = piece (ltb i (t .run .count)) (stepKind ∷ getD (t .run .steps) i 0 ∷ [])
@@ -48,12 +49,30 @@ slotPiece t k i =
     cond (eqb k sizesKind) (piece (eqb i 0) (sizesRecord (t .table)))
     (cond (isFactKind k) (factPiece t k i) (cond (isCellKind k) (cellPiece t k i) (cond (eqb k stepKind) (stepPiece t i) [])))
 
--- The record of one rank, if the task has it.
+-- The rank of a kind's place; how many ranks are before the end; the kind of a rank; and its record, if the task has it.
 abbrev pub rank : ℕ → ℕ → ℕ
-rank k i = k * slots + i
+rank k i = positionOf k * slots + i
+
+abbrev pub ranks : ℕ
+ranks = positionOf endKind * slots
+
+abbrev pub kindAtRank : ℕ → ℕ
+kindAtRank r = kindIn (r / slots)
 
 abbrev pub pieceAt : Task → ℕ → List ℕ
-pieceAt t r = slotPiece t (r / slots) (r % slots)
+pieceAt t r = slotPiece t (kindAtRank r) (r % slots)
+
+pub at-rank : (t : Task) (k i : ℕ) → isKind k ≡ true → i < slots → pieceAt t (rank k i) ≡ slotPiece t k i
+at-rank t k i known l =
+    let position : rank k i / slots ≡ positionOf k = omega arith in
+    let place : rank k i % slots ≡ i = omega arith in rw (position, place, kind-position k known)
+
+-- The position of a kind that a rank has.
+pub rank-position : (r : ℕ) → isKind (kindAtRank r) ≡ true → positionOf (kindAtRank r) ≡ r / slots
+rank-position r known = position-kind (r / slots) known
+
+pub position-of : (r k : ℕ) → kindAtRank r ≡ k → positionOf noKind < positionOf k → positionOf k ≤ positionOf endKind → r / slots ≡ positionOf k
+position-of r k is l h = sym (rank-position r (rw is (position-known k l h))) ∙ ap positionOf is
 
 -- Nothing from m on, where n is not below m.
 pub gather-up-to : (p : ℕ → List ℕ) (m n : ℕ) → m ≤ n → ((i : ℕ) → m ≤ i → p i ≡ []) → gather p n ≡ gather p m
@@ -62,30 +81,30 @@ gather-up-to p m n l none =
     ap (gather p) e ∙ gather-none p m (n - m) (λ i h _. none i h)
 
 -- The sizes come first.
-pub no-piece : (t : Task) (r : ℕ) → r < slots → pieceAt t r ≡ []
+pub no-piece : (t : Task) (r : ℕ) → r < rank sizesKind 0 → pieceAt t r ≡ []
 unfolding slotPiece isFactKind isCellKind
-no-piece t r l = let first : r / slots ≡ 0 = omega arith in rw first
+no-piece t r l = rw (none-first (r / slots) (omega arith))
 
 pub first-piece : (t : Task) → pieceAt t (rank sizesKind 0) ≡ sizesRecord (t .table)
-unfolding slotPiece
-first-piece t = refl
+unfolding slotPiece isKind
+first-piece t = at-rank t sizesKind 0 refl (omega arith)
 
 pub none-before : (t : Task) → gather (pieceAt t) (rank sizesKind 0) ≡ []
-none-before t = gather-none (pieceAt t) 0 slots (λ r _ l. no-piece t r l) ∙ gather-zero (pieceAt t)
+none-before t =
+    let e : rank sizesKind 0 ≡ 0 + rank sizesKind 0 = omega arith in
+    ap (gather (pieceAt t)) e ∙ gather-none (pieceAt t) 0 (rank sizesKind 0) (λ r _ l. no-piece t r (omega arith)) ∙ gather-zero (pieceAt t)
 
 pub sizes-first : (t : Task) → gather (pieceAt t) (suc (rank sizesKind 0)) ≡ sizesRecord (t .table)
 sizes-first t = gather-next (pieceAt t) (rank sizesKind 0) ∙ rw (none-before t) (first-piece t)
 
 -- The sizes come once; the steps come by their number.
-pub sizes-once : (t : Task) (r : ℕ) → r / slots ≡ sizesKind → (r % slots ≡ 0 → ⊥) → pieceAt t r ≡ []
+pub sizes-once : (t : Task) (r : ℕ) → kindAtRank r ≡ sizesKind → (r % slots ≡ 0 → ⊥) → pieceAt t r ≡ []
 unfolding slotPiece
 sizes-once t r is other = rw (is, ne-eqb (r % slots) 0 other)
 
 pub step-shape : (t : Task) (r i : ℕ) → r ≡ rank stepKind i → i < slots → pieceAt t r ≡ stepPiece t i
-unfolding slotPiece isFactKind isCellKind
-step-shape t r i e l =
-    let kind : r / slots ≡ stepKind = omega arith in
-    let place : r % slots ≡ i = omega arith in rw (kind, place)
+unfolding slotPiece isKind isFactKind isCellKind
+step-shape t r i e l = rw e (at-rank t stepKind i refl l)
 
 pub some-step : (t : Task) (i : ℕ) → i < t .run .count → stepPiece t i ≡ stepKind ∷ getD (t .run .steps) i 0 ∷ []
 unfolding stepPiece
@@ -133,17 +152,17 @@ module _ (t : Task) (formed : WellFormed t) where
       gather-up-to (slotPiece t sizesKind) 1 slots (omega arith) (λ i l. rw (ne-eqb i 0 (omega arith)))
       ∙ gather-one (slotPiece t sizesKind)
 
-  no-section : gather (slotPiece t 0) slots ≡ []
+  no-section : gather (slotPiece t noKind) slots ≡ []
   unfolding slotPiece isFactKind isCellKind
-  no-section = gather-up-to (slotPiece t 0) 0 slots (omega arith) (λ i l. refl) ∙ gather-zero (slotPiece t 0)
+  no-section = gather-up-to (slotPiece t noKind) 0 slots (omega arith) (λ i l. refl) ∙ gather-zero (slotPiece t noKind)
 
-  by-kinds : gather (pieceAt t) (endKind * slots) ≡
-      gather (slotPiece t 0) slots ++ gather (slotPiece t sizesKind) slots ++ gather (slotPiece t startKind) slots ++
+  by-kinds : gather (pieceAt t) ranks ≡
+      gather (slotPiece t noKind) slots ++ gather (slotPiece t sizesKind) slots ++ gather (slotPiece t startKind) slots ++
       gather (slotPiece t goalKind) slots ++ gather (slotPiece t needKind) slots ++ gather (slotPiece t addKind) slots ++
       gather (slotPiece t deleteKind) slots ++ gather (slotPiece t stepKind) slots
-  by-kinds = gather-digits (slotPiece t) endKind slots ∙ gather-eight (λ k. gather (slotPiece t k) slots)
+  by-kinds = gather-digits (λ p. slotPiece t (kindIn p)) (positionOf endKind) slots ∙ in-order (λ k. gather (slotPiece t k) slots)
 
-  pub file-by-rank : fileOf t ≡ gather (pieceAt t) (endKind * slots) ++ (endKind ∷ [])
+  pub file-by-rank : fileOf t ≡ gather (pieceAt t) ranks ++ (endKind ∷ [])
   unfolding fileOf slotPiece isFactKind isCellKind factPiece cellPiece
   file-by-rank =
       rw (

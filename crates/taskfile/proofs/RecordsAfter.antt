@@ -1,7 +1,7 @@
 -- The records of a task with one record more: those it had, and the new one at its rank. Assumes nothing.
 use mathlib.Core.Bool.{Bool, true, false, cond, _&&_, _||_, or-true, or-false, false≢true}
 use mathlib.Core.List.{List, [], _∷_}
-use mathlib.Core.Path.{_≡_, refl, sym, _∙_}
+use mathlib.Core.Path.{_≡_, refl, sym, ap, _∙_, subst}
 use Prim.Native.Nat.{ℕ, _+_, _-_, _/_, _%_, _<_, _≤_}
 use native.Mathlib.Omega.{arith}
 use lib.Dec.{eqb, ltb}
@@ -12,11 +12,12 @@ use Rattle.table.proofs.FlagLaws.{both, and-both}
 use Rattle.table.specs.Lists.{piece}
 use Rattle.table.specs.Tasks.{WellFormed}
 use Rattle.table.specs.declared.Task.{Task}
-use Rattle.taskfile.specs.Format.{sizesKind, needKind, deleteKind, stepKind, isFactKind, isCellKind}
+use Rattle.taskfile.specs.Format.{sizesKind, needKind, deleteKind, stepKind, endKind, isKind, isFactKind, isCellKind, positionOf, kindIn}
 use Rattle.taskfile.specs.Reading.{byteRoom, tableAfter, runAfter}
-use Rattle.taskfile.proofs.Ranks.{slots, rank, factSet, cellSet, factPiece, cellPiece, stepPiece, slotPiece, pieceAt}
+use Rattle.taskfile.proofs.Ranks.{slots, rank, factSet, cellMask, factPiece, cellPiece, stepPiece, slotPiece, kindAtRank, pieceAt, rank-position}
 use Rattle.taskfile.proofs.Families.{FactKind, CellKind, Family, ofNone, ofSizes, ofFact, ofCell, ofStep, family}
-use Rattle.taskfile.proofs.Fitting.{Told, slotOf, recordBytes, fact-bytes, cell-bytes, step-bytes}
+use Rattle.taskfile.proofs.PositionLaws.{apart, kind-position}
+use Rattle.taskfile.proofs.Fitting.{Fitted, fitted-known, slotOf, recordBytes, fact-bytes, cell-bytes, step-bytes}
 use Rattle.taskfile.proofs.OneMore.{taskAfter, has-grown, same-sizes, masks-after, steps-after}
 
 -- A piece that stands where it stood or where a test holds; q is the rank of the new record.
@@ -34,49 +35,58 @@ more-below : (b : Bool) (i n : ℕ) → ltb i (cond b (n + 1) n) ≡ (ltb i n ||
 more-below true i n = one-below (ltb i n) (eqb i n) i n refl refl
 more-below false i n = sym (or-false (ltb i n))
 
-module _ (t : Task) (k x y z : ℕ) (formed : WellFormed t) (told : Told t k x y) where
+module _ (t : Task) (k x y z : ℕ) (formed : WellFormed t) (fitted : Fitted t k x y) where
   abbrev After : ℕ → Type 0
   After r = pieceAt (taskAfter t k x y z) r ≡ cond (eqb r (rank k (slotOf t k x y))) (recordBytes k x y) (pieceAt t r)
 
-  fact-after : (r : ℕ) → FactKind (r / slots) → After r
+  -- The kind of the new record's rank is its kind.
+  kind-there : (r : ℕ) → r ≡ rank k (slotOf t k x y) → k ≡ kindAtRank r
+  kind-there r e =
+      let position : positionOf k ≡ r / slots = omega (arith, fitted .small) in
+      sym (kind-position k (fitted-known fitted)) ∙ ap kindIn position
+
+  fact-after : (r : ℕ) → FactKind (kindAtRank r) → After r
   unfolding taskAfter factPiece
   fact-after r kind =
       kind .shape (taskAfter t k x y z) (r % slots)
-      ∙ rw (kind .grown (t .run) k x, has-grown (eqb k (r / slots)) (factSet (t .run) (r / slots)) x (r % slots) small)
-      (grown-piece (has (factSet (t .run) (r / slots)) (r % slots)) (eqb k (r / slots) && eqb (r % slots) x) (r / slots ∷ r % slots ∷ [])
+      ∙ rw (kind .grown (t .run) k x, has-grown (eqb k (kindAtRank r)) (factSet (t .run) (kindAtRank r)) x (r % slots) small)
+      (grown-piece (has (factSet (t .run) (kindAtRank r)) (r % slots)) (eqb k (kindAtRank r) && eqb (r % slots) x) (kindAtRank r ∷ r % slots ∷ [])
       (recordBytes k x y) (pieceAt t r) r (rank k (slotOf t k x y)) here back (λ _. sym (kind .shape t (r % slots))))
     where
-      small : eqb k (r / slots) ≡ true → x < width
+      small : eqb k (kindAtRank r) ≡ true → x < width
       small e =
-          let same = eqb-true k (r / slots) e in
-          let less = told .fact (omega arith) in
+          let same = ap positionOf (eqb-true k (kindAtRank r) e) in
+          let less = fitted .fact (omega arith) in
           let most = formed .facts-high in omega arith
 
-      here : (eqb k (r / slots) && eqb (r % slots) x) ≡ true
-          → (r / slots ∷ r % slots ∷ [] ≡ recordBytes k x y) × (r ≡ rank k (slotOf t k x y))
+      here : (eqb k (kindAtRank r) && eqb (r % slots) x) ≡ true
+          → (kindAtRank r ∷ r % slots ∷ [] ≡ recordBytes k x y) × (r ≡ rank k (slotOf t k x y))
       here e =
-          let tests = both (eqb k (r / slots)) (eqb (r % slots) x) e in
-          let same = eqb-true k (r / slots) (tests .0) in
+          let tests = both (eqb k (kindAtRank r)) (eqb (r % slots) x) e in
+          let same = eqb-true k (kindAtRank r) (tests .0) in
+          let position = ap positionOf same in
+          let at = rank-position r (kind .known) in
           let place = eqb-true (r % slots) x (tests .1) in
-          let slot = told .fact-slot (omega arith) in
+          let slot = fitted .fact-slot (omega arith) in
           (rw (same, ← place, fact-bytes kind (r % slots) y), omega arith)
 
-      back : r ≡ rank k (slotOf t k x y) → (eqb k (r / slots) && eqb (r % slots) x) ≡ true
+      back : r ≡ rank k (slotOf t k x y) → (eqb k (kindAtRank r) && eqb (r % slots) x) ≡ true
       back e =
-          let same : k ≡ r / slots = omega arith in
-          let slot = told .fact-slot (omega arith) in
-          and-both _ _ (eq-eqb k (r / slots) same) (eq-eqb (r % slots) x (omega arith))
+          let same = kind-there r e in
+          let position = ap positionOf same in
+          let slot = fitted .fact-slot (omega arith) in
+          and-both _ _ (eq-eqb k (kindAtRank r) same) (eq-eqb (r % slots) x (omega arith))
 
-  cell-after : (r : ℕ) → CellKind (r / slots) → After r
+  cell-after : (r : ℕ) → CellKind (kindAtRank r) → After r
   unfolding taskAfter cellPiece
   cell-after r kind =
       kind .shape (taskAfter t k x y z) (r % slots)
       ∙ rw (
-        masks-after t k x y z formed told (deleteKind - r / slots) a,
+        masks-after t k x y z formed fitted (deleteKind - kindAtRank r) a,
         kind .mask,
-        has-grown (eqb k (r / slots) && eqb a x) (cellSet (t .table) (r / slots) a) y f small,
+        has-grown (eqb k (kindAtRank r) && eqb a x) (cellMask (t .table) (kindAtRank r) a) y f small,
       )
-      (grown-piece (has (cellSet (t .table) (r / slots) a) f) ((eqb k (r / slots) && eqb a x) && eqb f y) (r / slots ∷ a ∷ f ∷ [])
+      (grown-piece (has (cellMask (t .table) (kindAtRank r) a) f) ((eqb k (kindAtRank r) && eqb a x) && eqb f y) (kindAtRank r ∷ a ∷ f ∷ [])
       (recordBytes k x y) (pieceAt t r) r (rank k (slotOf t k x y)) here back (λ _. sym (kind .shape t (r % slots))))
     where
       a : ℕ
@@ -85,39 +95,42 @@ module _ (t : Task) (k x y z : ℕ) (formed : WellFormed t) (told : Told t k x y
       f : ℕ
       f = r % slots % byteRoom
 
-      small : (eqb k (r / slots) && eqb a x) ≡ true → y < width
+      small : (eqb k (kindAtRank r) && eqb a x) ≡ true → y < width
       small e =
-          let same = eqb-true k (r / slots) (both (eqb k (r / slots)) (eqb a x) e .0) in
-          let less = told .cell (omega arith) (omega arith) in
+          let same = ap positionOf (eqb-true k (kindAtRank r) (both (eqb k (kindAtRank r)) (eqb a x) e .0)) in
+          let less = fitted .cell (omega arith) (omega arith) in
           let most = formed .facts-high in omega arith
 
-      here : ((eqb k (r / slots) && eqb a x) && eqb f y) ≡ true
-          → (r / slots ∷ a ∷ f ∷ [] ≡ recordBytes k x y) × (r ≡ rank k (slotOf t k x y))
+      here : ((eqb k (kindAtRank r) && eqb a x) && eqb f y) ≡ true
+          → (kindAtRank r ∷ a ∷ f ∷ [] ≡ recordBytes k x y) × (r ≡ rank k (slotOf t k x y))
       here e =
-          let tests = both (eqb k (r / slots) && eqb a x) (eqb f y) e in
-          let firsts = both (eqb k (r / slots)) (eqb a x) (tests .0) in
-          let same = eqb-true k (r / slots) (firsts .0) in
+          let tests = both (eqb k (kindAtRank r) && eqb a x) (eqb f y) e in
+          let firsts = both (eqb k (kindAtRank r)) (eqb a x) (tests .0) in
+          let same = eqb-true k (kindAtRank r) (firsts .0) in
+          let position = ap positionOf same in
+          let at = rank-position r (kind .known) in
           let action = eqb-true a x (firsts .1) in
           let fact = eqb-true f y (tests .1) in
-          let low : needKind ≤ k = omega arith in
-          let high : k ≤ deleteKind = omega arith in
-          let slot = told .cell-slot low high in
+          let low : positionOf needKind ≤ positionOf k = omega arith in
+          let high : positionOf k ≤ positionOf deleteKind = omega arith in
+          let slot = fitted .cell-slot low high in
           (rw (same, ← action, ← fact, cell-bytes kind a f), omega arith)
 
-      back : r ≡ rank k (slotOf t k x y) → ((eqb k (r / slots) && eqb a x) && eqb f y) ≡ true
+      back : r ≡ rank k (slotOf t k x y) → ((eqb k (kindAtRank r) && eqb a x) && eqb f y) ≡ true
       back e =
-          let same : k ≡ r / slots = omega arith in
-          let low : needKind ≤ k = omega arith in
-          let high : k ≤ deleteKind = omega arith in
-          let slot = told .cell-slot low high in
-          let less = told .cell low high in
+          let same = kind-there r e in
+          let position = ap positionOf same in
+          let low : positionOf needKind ≤ positionOf k = omega arith in
+          let high : positionOf k ≤ positionOf deleteKind = omega arith in
+          let slot = fitted .cell-slot low high in
+          let less = fitted .cell low high in
           let most = formed .facts-high in
-          and-both _ _ (and-both _ _ (eq-eqb k (r / slots) same) (eq-eqb a x (omega arith))) (eq-eqb f y (omega arith))
+          and-both _ _ (and-both _ _ (eq-eqb k (kindAtRank r) same) (eq-eqb a x (omega arith))) (eq-eqb f y (omega arith))
 
-  step-after : (r : ℕ) → r / slots ≡ stepKind → After r
+  step-after : (r : ℕ) → kindAtRank r ≡ stepKind → After r
   unfolding taskAfter runAfter slotPiece stepPiece isFactKind isCellKind
   step-after r is =
-      rw (is, stepPiece, more-below (eqb k stepKind) i (t .run .count), steps-after t k x y z formed told i)
+      rw (is, stepPiece, more-below (eqb k stepKind) i (t .run .count), steps-after t k x y z formed fitted i)
       (grown-piece (ltb i (t .run .count)) (eqb k stepKind && eqb i (t .run .count))
       (stepKind ∷ cond (eqb k stepKind && eqb i (t .run .count)) x (getD (t .run .steps) i 0) ∷ [])
       (recordBytes k x y) (stepPiece t i) r (rank k (slotOf t k x y)) here back (λ e. rw e))
@@ -131,27 +144,33 @@ module _ (t : Task) (k x y z : ℕ) (formed : WellFormed t) (told : Told t k x y
       here e =
           let tests = both (eqb k stepKind) (eqb i (t .run .count)) e in
           let same = eqb-true k stepKind (tests .0) in
+          let position = ap positionOf same in
+          let at = ap positionOf is in
+          let there = rank-position r (subst (λ (j : ℕ). isKind j ≡ true) (sym is) (rw same at (fitted-known fitted))) in
           let place = eqb-true i (t .run .count) (tests .1) in
-          let slot = told .step-slot same in
+          let slot = fitted .step-slot position in
           (rw (e, same, step-bytes x y), omega arith)
 
       back : r ≡ rank k (slotOf t k x y) → (eqb k stepKind && eqb i (t .run .count)) ≡ true
       back e =
-          let same : k ≡ stepKind = omega arith in
-          let slot = told .step-slot same in
+          let same = kind-there r e ∙ is in
+          let slot = fitted .step-slot (ap positionOf same) in
           and-both _ _ (eq-eqb k stepKind same) (eq-eqb i (t .run .count) (omega arith))
 
-  sizes-after : (r : ℕ) → r / slots ≡ sizesKind → After r
+  sizes-after : (r : ℕ) → kindAtRank r ≡ sizesKind → After r
   unfolding taskAfter tableAfter slotPiece
-  sizes-after r is = rw (is, same-sizes t k x y z formed told, ne-eqb r (rank k (slotOf t k x y)) (omega arith))
+  sizes-after r is =
+      rw (is, same-sizes t k x y z formed fitted, ne-eqb r (rank k (slotOf t k x y)) (λ e. apart sizesKind k (fitted .later) (kind-there r e ∙ is)))
 
   pub piece-after : (r : ℕ) → After r
-  piece-after r = at (family (r / slots))
+  piece-after r = at (family (kindAtRank r))
     where
-      at : Family (r / slots) → After r
+      at : Family (kindAtRank r) → After r
       at (ofNone out nothing) =
           let other : r ≡ rank k (slotOf t k x y) → ⊥ =
-          λ e. let same : k ≡ r / slots = omega arith in let far = out (omega arith) in omega arith in
+          λ e.
+          let same = kind-there r e in
+          apart k endKind (fitted .last) (sym (same ∙ out (rw same at (fitted-known fitted)))) in
           nothing (taskAfter t k x y z) (r % slots) ∙ sym (rw (ne-eqb r (rank k (slotOf t k x y)) other) (nothing t (r % slots)))
       at (ofSizes is) = sizes-after r is
       at (ofFact kind) = fact-after r kind

@@ -15,9 +15,10 @@ use Rattle.table.specs.Lists.{piece}
 use Rattle.table.specs.Tasks.{WellFormed}
 use Rattle.table.specs.declared.Table.{Table}
 use Rattle.table.specs.declared.Task.{Task}
-use Rattle.taskfile.specs.Format.{startKind, goalKind, needKind, addKind, deleteKind, stepKind, endKind, isFactKind, isCellKind}
+use Rattle.taskfile.specs.Format.{startKind, goalKind, needKind, addKind, deleteKind, stepKind, endKind, isKind, isFactKind, isCellKind, positionOf}
 use Rattle.taskfile.specs.Reading.{byteRoom}
-use Rattle.taskfile.proofs.Ranks.{slots, rank, factSet, cellSet, factPiece, cellPiece, stepPiece, slotPiece, pieceAt, some-step}
+use Rattle.taskfile.proofs.Ranks.{slots, ranks, rank, factSet, cellMask, factPiece, cellPiece, stepPiece, slotPiece, pieceAt, at-rank, some-step}
+use Rattle.taskfile.proofs.PositionLaws.{order}
 use Rattle.taskfile.proofs.Families.{FactKind, CellKind, start-kind, goal-kind, need-kind, add-kind, delete-kind}
 
 -- The same sizes.
@@ -34,21 +35,18 @@ same-test true false n l m e = let longer = ap length e in absurd (omega arith)
 same-test false true n l m e = let longer = ap length e in absurd (omega arith)
 
 module _ (t q : Task) (formed : WellFormed t) (formed′ : WellFormed q) (sizes : SameSizes (t .table) (q .table))
-    (same : (r : ℕ) → r < endKind * slots → pieceAt t r ≡ pieceAt q r) where
-  at-rank : (k i : ℕ) → k < endKind → i < slots → slotPiece t k i ≡ slotPiece q k i
-  at-rank k i l h =
-      let kind : rank k i / slots ≡ k = omega arith in
-      let place : rank k i % slots ≡ i = omega arith in
-      rw (kind, place) at (same (rank k i) (omega arith))
+    (same : (r : ℕ) → r < ranks → pieceAt t r ≡ pieceAt q r) where
+  same-slots : (k i : ℕ) → isKind k ≡ true → positionOf k < positionOf endKind → i < slots → slotPiece t k i ≡ slotPiece q k i
+  same-slots k i known l h = sym (at-rank t k i known h) ∙ same (rank k i) (omega arith) ∙ at-rank q k i known h
 
   same-facts : (k f : ℕ) → FactKind k → f < slots → has (factSet (t .run) k) f ≡ has (factSet (q .run) k) f
   unfolding factPiece
   same-facts k f kind l =
       same-test (has (factSet (t .run) k) f) (has (factSet (q .run) k) f) k (f ∷ []) (f ∷ [])
-      (sym (kind .shape t f) ∙ at-rank k f (omega arith) l ∙ kind .shape q f)
+      (sym (kind .shape t f) ∙ same-slots k f (kind .known) (omega (arith, order)) l ∙ kind .shape q f)
 
   same-cells : (k a f : ℕ) → CellKind k → a < t .table .actions → f < t .table .facts
-      → has (cellSet (t .table) k a) f ≡ has (cellSet (q .table) k a) f
+      → has (cellMask (t .table) k a) f ≡ has (cellMask (q .table) k a) f
   unfolding cellPiece
   same-cells k a f kind l h =
       let few = formed .actions-high in
@@ -57,14 +55,14 @@ module _ (t q : Task) (formed : WellFormed t) (formed′ : WellFormed q) (sizes 
       let action : i / byteRoom ≡ a = omega arith in
       let fact : i % byteRoom ≡ f = omega arith in
       let there =
-      same-test (has (cellSet (t .table) k (i / byteRoom)) (i % byteRoom)) (has (cellSet (q .table) k (i / byteRoom)) (i % byteRoom)) k
+      same-test (has (cellMask (t .table) k (i / byteRoom)) (i % byteRoom)) (has (cellMask (q .table) k (i / byteRoom)) (i % byteRoom)) k
       (i / byteRoom ∷ i % byteRoom ∷ []) (i / byteRoom ∷ i % byteRoom ∷ [])
-      (sym (kind .shape t i) ∙ at-rank k i (omega arith) (omega arith) ∙ kind .shape q i) in
+      (sym (kind .shape t i) ∙ same-slots k i (kind .known) (omega (arith, order)) (omega arith) ∙ kind .shape q i) in
       rw (action, fact) at there
 
   same-steps : (i : ℕ) → i < slots → stepPiece t i ≡ stepPiece q i
-  unfolding slotPiece isFactKind isCellKind
-  same-steps i l = at-rank stepKind i (omega arith) l
+  unfolding slotPiece isKind isFactKind isCellKind
+  same-steps i l = same-slots stepKind i refl (order .end) l
 
   -- ---- the sets
 
@@ -76,11 +74,11 @@ module _ (t q : Task) (formed : WellFormed t) (formed′ : WellFormed q) (sizes 
       by-order f (t .table .facts) (λ l. let most = formed .facts-high in same-facts k f kind (omega arith))
       (λ l. let size = sizes .facts in inside f l ∙ sym (inside′ f (omega arith))))
 
-  same-mask : (k a : ℕ) → CellKind k → cellSet (t .table) k a ≡ cellSet (q .table) k a
+  same-mask : (k a : ℕ) → CellKind k → cellMask (t .table) k a ≡ cellMask (q .table) k a
   same-mask k a kind =
       by-order a (t .table .actions)
       (λ l.
-      same-sets (cellSet (t .table) k a) (cellSet (q .table) k a)
+      same-sets (cellMask (t .table) k a) (cellMask (q .table) k a)
       (λ f.
       by-order f (t .table .facts) (same-cells k a f kind l)
       (λ h.

@@ -3,10 +3,10 @@ use mathlib.Core.List.{List}
 use mathlib.Core.Path.{_≡_, sym, _∙_}
 use Prim.Native.Nat.{ℕ}
 use native.Mathlib.Omega.{arith}
-use Rattle.taskfile.specs.declared.TaskRead.{TaskRead}
+use Rattle.table.specs.declared.TaskReply.{TaskReply}
 use Rattle.taskfile.specs.Reading.{Seen, Reads, faulty, good, ended, trailing}
 
-pub reads-unique : {s : List ℕ} {r q : TaskRead} {at : ℕ} {seen : Seen} → Reads s r at seen → Reads s q at seen → r ≡ q
+pub reads-unique : {s : List ℕ} {r q : TaskReply} {at : ℕ} {seen : Seen} → Reads s r at seen → Reads s q at seen → r ≡ q
 reads-unique (faulty f e) (faulty _ d) = e ∙ sym d
 reads-unique (faulty f e) (good c _ _) = absurd (omega arith)
 reads-unique (faulty f e) (ended c _ _ _) = absurd (omega arith)

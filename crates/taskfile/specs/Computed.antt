@@ -5,20 +5,20 @@ use Prim.Native.Nat.{ℕ, zero, suc, _+_}
 use lib.Dec.{eqb, ltb}
 use lib.ListN.{length}
 use Rattle.table.specs.Refusals.{noEnd, bytesAfterEnd}
-use Rattle.taskfile.specs.declared.TaskRead.{TaskRead}
+use Rattle.table.specs.declared.TaskReply.{TaskReply}
 use Rattle.taskfile.specs.Format.{endKind}
 use Rattle.taskfile.specs.Reading.{Seen, nothingSeen, kindAt, nextAt, seenAfter, faultAt, refusedRead, acceptedRead}
 
 -- What reading s gives from a place on, with at most n records still to come. With none left the place is past the last byte.
-unfoldable pub readFrom : ℕ → List ℕ → ℕ → Seen → TaskRead
+unfoldable pub readFrom : ℕ → List ℕ → ℕ → Seen → TaskReply
 readFrom zero s at seen = refusedRead noEnd at
 readFrom (suc n) s at seen =
-    let rest : TaskRead = readFrom n s (nextAt s at) (seenAfter s at seen) in
-    cond {A = TaskRead} (eqb (faultAt s at seen .number) 0)
-    (cond {A = TaskRead} (eqb (kindAt s at) endKind)
-    (cond {A = TaskRead} (ltb (at + 1) (length s)) (refusedRead bytesAfterEnd (at + 1)) (acceptedRead (seen .task))) rest)
+    let rest : TaskReply = readFrom n s (nextAt s at) (seenAfter s at seen) in
+    cond {A = TaskReply} (eqb (faultAt s at seen .number) 0)
+    (cond {A = TaskReply} (eqb (kindAt s at) endKind)
+    (cond {A = TaskReply} (ltb (at + 1) (length s)) (refusedRead bytesAfterEnd (at + 1)) (acceptedRead (seen .task))) rest)
     (refusedRead (faultAt s at seen .number) (faultAt s at seen .place))
 
 -- What reading a whole file gives.
-unfoldable pub readFile : List ℕ → TaskRead
+unfoldable pub readFile : List ℕ → TaskReply
 readFile s = readFrom (length s) s 0 nothingSeen

@@ -1,7 +1,7 @@
 -- The file of a task, as a plain function from tasks to bytes: document 01, "The task file".
 use mathlib.Core.Bool.{Bool, cond, _||_, _&&_}
 use mathlib.Core.List.{List, [], _∷_, _++_}
-use Prim.Native.Nat.{ℕ}
+use Prim.Native.Nat.{ℕ, suc}
 use lib.Dec.{eqb, leb}
 use lib.ListN.{getD}
 use Rattle.facts.specs.Sets.{has}
@@ -34,6 +34,26 @@ stepKind = 7
 
 abbrev pub endKind : ℕ
 endKind = 8
+
+-- No record yet.
+abbrev pub noKind : ℕ
+noKind = 0
+
+-- "Kinds never go down": the kinds in the order that a file has them, which is this list and not that of their numbers.
+unfoldable pub fileOrder : List ℕ
+fileOrder = noKind ∷ sizesKind ∷ startKind ∷ goalKind ∷ needKind ∷ addKind ∷ deleteKind ∷ stepKind ∷ endKind ∷ []
+
+-- The first place of a number in a list; the list's length where it has none.
+unfoldable pub firstPlace : List ℕ → ℕ → ℕ
+firstPlace [] k = 0
+firstPlace (j ∷ l) k = cond (eqb k j) 0 (suc (firstPlace l k))
+
+-- The position that a kind has in a file, and the kind that has a position.
+unfoldable pub positionOf : ℕ → ℕ
+positionOf k = firstPlace fileOrder k
+
+unfoldable pub kindIn : ℕ → ℕ
+kindIn p = getD fileOrder p noKind
 
 unfoldable pub isKind : ℕ → Bool
 isKind k = leb sizesKind k && leb k endKind

@@ -8,13 +8,13 @@ use lib.Dec.{eqb, leb, ltb}
 use lib.ListN.{length, getD, set, replicate}
 use Rattle.facts.specs.Sets.{joined, only}
 use Rattle.table.specs.Refusals.{Check, Refusal, refuseAt, firstOf, accepted, noEnd, unknownKind, sizesMisplaced, sizeOutside, numberOutside, notAscending, tooManySteps, bytesAfterEnd}
-use Rattle.table.specs.Setting.{setCell}
+use Rattle.table.specs.Setting.{setIn}
 use Rattle.table.specs.Sizes.{maxFacts, maxActions, maxSteps, maxLimit}
 use Rattle.table.specs.declared.Task.{Task}
 use Rattle.table.specs.declared.Table.{Table}
 use Rattle.table.specs.declared.Run.{Run}
-use Rattle.taskfile.specs.declared.TaskRead.{TaskRead}
-use Rattle.taskfile.specs.Format.{sizesKind, startKind, goalKind, needKind, addKind, deleteKind, stepKind, endKind, isKind, isCellKind, isFactKind, bodyLength}
+use Rattle.table.specs.declared.TaskReply.{TaskReply}
+use Rattle.taskfile.specs.Format.{sizesKind, startKind, goalKind, needKind, addKind, deleteKind, stepKind, endKind, isKind, isCellKind, isFactKind, bodyLength, noKind, positionOf}
 
 -- A task of zeros: what a refused read returns.
 abbrev pub noTask : Task
@@ -23,14 +23,14 @@ noTask = record {
   run = record { start = 0; goal = 0; count = 0; steps = replicate maxSteps 0 };
 }
 
--- What the records so far have said: the task, and the last record's kind and body (kind 0: no record yet).
+-- What the records so far have said: the task, and the last record's kind and body.
 pub record Seen : Type 0 where
   pub task : Task
   pub kind : ℕ
   pub body : ℕ
 
 abbrev pub nothingSeen : Seen
-nothingSeen = record { task = noTask; kind = 0; body = 0 }
+nothingSeen = record { task = noTask; kind = noKind; body = 0 }
 
 -- The record at a place of the file: its kind and the bytes of its body.
 abbrev pub kindAt : List ℕ → ℕ → ℕ
@@ -49,7 +49,7 @@ bodyAt s at = cond (isCellKind (kindAt s at)) (byteRoom * byteAt s at 0 + byteAt
 
 -- 3: "first kind isn't 1, or 1 comes again"
 unfoldable pub misplaced : Seen → ℕ → Bool
-misplaced seen kind = cond (eqb (seen .kind) 0) (not (eqb kind sizesKind)) (eqb kind sizesKind)
+misplaced seen kind = cond (eqb (seen .kind) noKind) (not (eqb kind sizesKind)) (eqb kind sizesKind)
 
 -- 4: "a size is out of range"
 unfoldable pub sizesWrong : ℕ → ℕ → ℕ → Bool
@@ -65,22 +65,30 @@ outside t kind x y =
 -- 6: "kind goes down, or body doesn't ascend" (within each of kinds 2 to 6)
 unfoldable pub disordered : Seen → ℕ → ℕ → Bool
 disordered seen kind body =
-    ltb kind (seen .kind) || (eqb kind (seen .kind) && (isFactKind kind || isCellKind kind) && leb body (seen .body))
+    ltb (positionOf kind) (positionOf (seen .kind)) ||
+    (eqb kind (seen .kind) && (isFactKind kind || isCellKind kind) && leb body (seen .body))
+
+-- The place of each refusal of the record at a place: "the record's start"; 0 where there is none. (8 is of no record: `trailing`.)
+unfoldable pub placeOf : ℕ → List ℕ → ℕ → Seen → ℕ
+placeOf number s at seen = cond (eqb number accepted) 0 at
 
 -- The faults of the record at a place, in 01's order.
 unfoldable pub faultsAt : List ℕ → ℕ → Seen → List Check
 faultsAt s at seen =
-    refuseAt at (leb (length s) at) noEnd ∷
-    refuseAt at (not (isKind kind)) unknownKind ∷
-    refuseAt at (misplaced seen kind) sizesMisplaced ∷
-    refuseAt at (ltb (length s) (at + 1 + bodyLength kind)) noEnd ∷
-    refuseAt at (eqb kind sizesKind && sizesWrong (byteAt s at 0) (byteAt s at 1) (byteAt s at 2)) sizeOutside ∷
-    refuseAt at (outside (seen .task .table) kind (byteAt s at 0) (byteAt s at 1)) numberOutside ∷
-    refuseAt at (disordered seen kind (bodyAt s at)) notAscending ∷
-    refuseAt at (eqb kind stepKind && leb maxSteps (seen .task .run .count)) tooManySteps ∷ []
+    fault (leb (length s) at) noEnd ∷
+    fault (not (isKind kind)) unknownKind ∷
+    fault (misplaced seen kind) sizesMisplaced ∷
+    fault (ltb (length s) (at + 1 + bodyLength kind)) noEnd ∷
+    fault (eqb kind sizesKind && sizesWrong (byteAt s at 0) (byteAt s at 1) (byteAt s at 2)) sizeOutside ∷
+    fault (outside (seen .task .table) kind (byteAt s at 0) (byteAt s at 1)) numberOutside ∷
+    fault (disordered seen kind (bodyAt s at)) notAscending ∷
+    fault (eqb kind stepKind && leb maxSteps (seen .task .run .count)) tooManySteps ∷ []
   where
     kind : ℕ
     kind = kindAt s at
+
+    fault : Bool → ℕ → Check
+    fault b n = refuseAt (placeOf n s at seen) b n
 
 -- The task with one record more, of this kind and these bytes.
 unfoldable pub tableAfter : Table → ℕ → ℕ → ℕ → ℕ → Table
@@ -88,9 +96,9 @@ tableAfter t kind x y z = record {
   facts = cond (eqb kind sizesKind) x (t .facts);
   actions = cond (eqb kind sizesKind) y (t .actions);
   limit = cond (eqb kind sizesKind) z (t .limit);
-  needs = cond (eqb kind needKind) (setCell (t .needs) x y true) (t .needs);
-  adds = cond (eqb kind addKind) (setCell (t .adds) x y true) (t .adds);
-  deletes = cond (eqb kind deleteKind) (setCell (t .deletes) x y true) (t .deletes);
+  needs = cond (eqb kind needKind) (setIn (t .needs) x y true) (t .needs);
+  adds = cond (eqb kind addKind) (setIn (t .adds) x y true) (t .adds);
+  deletes = cond (eqb kind deleteKind) (setIn (t .deletes) x y true) (t .deletes);
 }
 
 unfoldable pub runAfter : Run → ℕ → ℕ → Run
@@ -116,10 +124,10 @@ abbrev pub nextAt : List ℕ → ℕ → ℕ
 nextAt s at = at + 1 + bodyLength (kindAt s at)
 
 -- "Beside its number and place .. any other refused call returns zeros (a read: a task of zeros)."
-abbrev pub refusedRead : ℕ → ℕ → TaskRead
+abbrev pub refusedRead : ℕ → ℕ → TaskReply
 refusedRead n p = record { number = n; place = p; task = noTask }
 
-abbrev pub acceptedRead : Task → TaskRead
+abbrev pub acceptedRead : Task → TaskReply
 acceptedRead t = record { number = accepted; place = 0; task = t }
 
 -- The number and place of the first fault of the record at a place; none where it is good.
@@ -127,7 +135,7 @@ abbrev pub faultAt : List ℕ → ℕ → Seen → Refusal
 faultAt s at seen = firstOf (faultsAt s at seen)
 
 -- r is what reading s gives from a place on, where the records before it have been seen.
-pub data Reads (s : List ℕ) (r : TaskRead) : ℕ → Seen → Type 0 where
+pub data Reads (s : List ℕ) (r : TaskReply) : ℕ → Seen → Type 0 where
   -- the first faulty record
   faulty : {at : ℕ} {seen : Seen} → 0 < faultAt s at seen .number
       → r ≡ refusedRead (faultAt s at seen .number) (faultAt s at seen .place) → Reads s r at seen
@@ -142,5 +150,5 @@ pub data Reads (s : List ℕ) (r : TaskRead) : ℕ → Seen → Type 0 where
       → r ≡ refusedRead bytesAfterEnd (at + 1) → Reads s r at seen
 
 -- Reading a whole file.
-abbrev pub ReadsFile : List ℕ → TaskRead → Type 0
+abbrev pub ReadsFile : List ℕ → TaskReply → Type 0
 ReadsFile s r = Reads s r 0 nothingSeen

@@ -9,7 +9,7 @@ use Rattle.table.specs.Refusals.{Check, Refusal, refuseAt, firstOf, accepted, n
 use Rattle.taskfile.specs.Format.{isKind, bodyLength}
 use Rattle.taskfile.specs.Reading.{kindAt, nextAt, Seen, faultsAt}
 use Rattle.taskfile.specs.declared.record.Record.{Record}
-use Rattle.taskfile.specs.declared.seen.Seen as code
+use Rattle.taskfile.specs.declared.seen.Known.{Known}
 
 -- 01's order: 1 (no kind byte), 2, 1 (short body), each at the place asked.
 unfoldable pub recordFault : List ℕ → ℕ → Refusal
@@ -44,10 +44,33 @@ recordAt s at =
 unfoldable pub bodyOf : List ℕ → ℕ → List ℕ
 bodyOf s at = take (recordAt s at .length) (drop (recordAt s at .start) s)
 
--- The words of the inner functions. What the code's struct says has been seen:
-abbrev pub seenOf : code.Seen → Seen
-seenOf q = record { task = q .task; kind = q .kind; body = q .body }
+-- The words of the inner functions. What has been seen, of what is known of it in numbers and the four arrays; the numbers alone,
+-- which are all that a fault looks at; and back.
+abbrev pub seenWith : Known → List ℕ → List ℕ → List ℕ → List ℕ → Seen
+seenWith k needs adds deletes steps = record {
+  task = record {
+    table = record { facts = k .facts; actions = k .actions; limit = k .limit; needs = needs; adds = adds; deletes = deletes };
+    run = record { start = k .start; goal = k .goal; count = k .count; steps = steps };
+  };
+  kind = k .kind;
+  body = k .body;
+}
 
--- and the checks of a record behind 1, 2, 3 and 1: those of a body that is there, 4 to 7.
+abbrev pub seenOf : Known → Seen
+seenOf k = seenWith k [] [] [] []
+
+abbrev pub knownOf : Seen → Known
+knownOf seen = record {
+  facts = seen .task .table .facts;
+  actions = seen .task .table .actions;
+  limit = seen .task .table .limit;
+  start = seen .task .run .start;
+  goal = seen .task .run .goal;
+  count = seen .task .run .count;
+  kind = seen .kind;
+  body = seen .body;
+}
+
+-- And the checks of a record behind 1, 2, 3 and 1: those of a body that is there, 4 to 7.
 unfoldable pub bodyFaults : List ℕ → ℕ → Seen → List Check
 bodyFaults s at seen = drop 4 (faultsAt s at seen)

@@ -2,23 +2,28 @@
 // body), 4, 5, 6, 7").
 use crate::kinds;
 use crate::parts;
-use crate::seen::Seen;
+use crate::seen::Known;
 use table::ACTIONS;
 use table::FACTS;
 use table::LIMIT;
 use table::STEPS;
-use table::Table;
 use table::refusals;
 ghost use mathlib.Core.Path.{_≡_};
 ghost use Rattle.table.specs.Refusals.{firstOf};
-ghost use Rattle.taskfile.specs.Reading.{misplaced, sizesWrong, outside, disordered, faultAt};
+ghost use Rattle.taskfile.specs.Reading.{misplaced, sizesWrong, outside, disordered, placeOf, faultAt};
 ghost use Rattle.taskfile.specs.Records.{seenOf, bodyFaults};
 
+// The first fault of a record: its number and its place; 0 and 0 where it is good.
+pub struct Fault {
+    pub number: usize,
+    pub place: usize,
+}
+
 // 3: the first kind is not that of the sizes, or the sizes come again.
-fn is_misplaced(seen: Seen, kind: usize) -> bool
-    ensures { λ r. ⌜ r ≡ misplaced (seenOf seen) kind ⌝ }
+fn is_misplaced(known: Known, kind: usize) -> bool
+    ensures { λ r. ⌜ r ≡ misplaced (seenOf known) kind ⌝ }
 {
-    if seen.kind == kinds::NONE {
+    if known.kind == kinds::NONE {
         kind != kinds::SIZES
     } else {
         kind == kinds::SIZES
@@ -33,38 +38,37 @@ fn sizes_wrong(f: usize, a: usize, l: usize) -> bool
 }
 
 // 5: a fact or an action is outside.
-fn is_outside(table: Table, kind: usize, x: usize, y: usize) -> bool
-    ensures { λ r. ⌜ r ≡ outside table kind x y ⌝ }
+fn is_outside(known: Known, kind: usize, x: usize, y: usize) -> bool
+    ensures { λ r. ⌜ r ≡ outside (seenOf known .task .table) kind x y ⌝ }
 {
-    (kinds::is_fact_kind(kind) & (table.facts <= x))
-        | (kinds::is_cell_kind(kind) & ((table.actions <= x) | (table.facts <= y)))
-        | ((kind == kinds::STEP) & (table.actions <= x))
+    (kinds::is_fact_kind(kind) & (known.facts <= x))
+        | (kinds::is_cell_kind(kind) & ((known.actions <= x) | (known.facts <= y)))
+        | ((kind == kinds::STEP) & (known.actions <= x))
 }
 
-// 6: the kind goes down, or the body does not ascend.
-fn is_disordered(seen: Seen, kind: usize, body: usize) -> bool
-    ensures { λ r. ⌜ r ≡ disordered (seenOf seen) kind body ⌝ }
+// 6: the kind goes down, by its position in a file, or the body does not ascend.
+fn is_disordered(known: Known, kind: usize, body: usize) -> bool
+    ensures { λ r. ⌜ r ≡ disordered (seenOf known) kind body ⌝ }
 {
-    (kind < seen.kind)
-        | ((kind == seen.kind)
+    (kinds::position(kind) < kinds::position(known.kind))
+        | ((kind == known.kind)
             & (kinds::is_fact_kind(kind) | kinds::is_cell_kind(kind))
-            & (body <= seen.body))
+            & (body <= known.body))
 }
 
 // The first of the faults that a whole body can have: 4, 5, 6, 7; 0 where it has none.
-fn body_fault(s: &[u8], at: usize, seen: Seen) -> usize
-    ensures { λ r. ⌜ r ≡ firstOf (bodyFaults (now (s .entry)) at (seenOf seen)) .number ⌝ }
+fn body_fault(s: &[u8], at: usize, known: Known) -> usize
+    ensures { λ r. ⌜ r ≡ firstOf (bodyFaults (now (s .entry)) at (seenOf known)) .number ⌝ }
 {
     let kind = parts::kind_at(s, at);
     let x = parts::number_at(s, at, 0);
     let y = parts::number_at(s, at, 1);
     let z = parts::number_at(s, at, 2);
     let body = parts::body_number(s, at);
-    let table = seen.task.table;
     let misfit = (kind == kinds::SIZES) & sizes_wrong(x, y, z);
-    let beyond = is_outside(table, kind, x, y);
-    let down = is_disordered(seen, kind, body);
-    let full = (kind == kinds::STEP) & (STEPS <= seen.task.run.count);
+    let beyond = is_outside(known, kind, x, y);
+    let down = is_disordered(known, kind, body);
+    let full = (kind == kinds::STEP) & (STEPS <= known.count);
     if misfit {
         return refusals::SIZE_OUTSIDE;
     }
@@ -81,8 +85,8 @@ fn body_fault(s: &[u8], at: usize, seen: Seen) -> usize
 }
 
 // The number of the first fault of the record at a place; 0 where it is good.
-pub(crate) fn fault_at(s: &[u8], at: usize, seen: Seen) -> usize
-    ensures { λ r. ⌜ r ≡ faultAt (now (s .entry)) at (seenOf seen) .number ⌝ }
+fn fault_number(s: &[u8], at: usize, known: Known) -> usize
+    ensures { λ r. ⌜ r ≡ faultAt (now (s .entry)) at (seenOf known) .number ⌝ }
 {
     if s.len() <= at {
         return refusals::NO_END;
@@ -91,11 +95,26 @@ pub(crate) fn fault_at(s: &[u8], at: usize, seen: Seen) -> usize
     if !kinds::is_kind(kind) {
         return refusals::UNKNOWN_KIND;
     }
-    if is_misplaced(seen, kind) {
+    if is_misplaced(known, kind) {
         return refusals::SIZES_MISPLACED;
     }
     if s.len() - at <= kinds::body_length(kind) {
         return refusals::NO_END;
     }
-    body_fault(s, at, seen)
+    body_fault(s, at, known)
+}
+
+// Where a refusal of the record at a place is told: at the record's start.
+fn place_of(number: usize, s: &[u8], at: usize, known: Known) -> usize
+    ensures { λ r. ⌜ r ≡ placeOf number (now (s .entry)) at (seenOf known) ⌝ }
+{
+    if number == refusals::ACCEPTED { 0 } else { at }
+}
+
+pub(crate) fn fault_at(s: &[u8], at: usize, known: Known) -> Fault
+    ensures { λ r. ⌜ (r .number ≡ faultAt (now (s .entry)) at (seenOf known) .number) × (r .place ≡ faultAt (now (s .entry)) at (seenOf known) .place) ⌝ }
+{
+    let number = fault_number(s, at, known);
+    let place = place_of(number, s, at, known);
+    Fault { number, place }
 }

@@ -1,6 +1,6 @@
 // The kinds of record and the length of each kind's body (document 01, "The task file").
 ghost use mathlib.Core.Path.{_≡_};
-ghost use Rattle.taskfile.specs.Format.{isKind, isCellKind, isFactKind, bodyLength};
+ghost use Rattle.taskfile.specs.Format.{isKind, positionOf, isCellKind, isFactKind, bodyLength};
 
 // Before the first record.
 pub const NONE: usize = 0;
@@ -25,6 +25,13 @@ pub fn is_kind(kind: usize) -> bool
     ensures { λ r. ⌜ r ≡ isKind kind ⌝ }
 {
     (SIZES <= kind) & (kind <= END)
+}
+
+// The position that a kind has in a file: 01 numbers the kinds as they come. What is no kind comes after them all.
+pub fn position(kind: usize) -> usize
+    ensures { λ r. ⌜ r ≡ positionOf kind ⌝ }
+{
+    if kind <= END { kind } else { END + 1 }
 }
 
 // Need, add or delete: the body is an action and a fact.

@@ -1,106 +1,99 @@
-// What the records so far have said, and what one good record more makes of it (document 01, "The task file").
+// What the records so far have said, and what one good record more makes of it (document 01, "The task file"). The sets of
+// the actions and the steps stand in arrays of their own, into which a record stores its own place.
 use crate::kinds;
 use crate::parts;
-use table::Run;
-use table::Table;
-use table::Task;
-use table::cells::set_in;
+use table::ACTIONS;
+use table::STEPS;
+ghost use mathlib.Core.Bool.{cond, true};
 ghost use mathlib.Core.Path.{_≡_};
-ghost use Prim.Native.Nat.{_<_};
-ghost use Rattle.table.specs.Sizes.{maxSteps};
+ghost use lib.ListN.{length, set};
 ghost use Rattle.table.specs.Refusals.{accepted};
-ghost use Rattle.taskfile.specs.Format.{stepKind};
-ghost use Rattle.taskfile.specs.Reading.{nothingSeen, tableAfter, runAfter, seenAfter, faultAt};
-ghost use Rattle.taskfile.specs.Records.{seenOf};
+ghost use Rattle.table.specs.Setting.{setIn};
+ghost use Rattle.table.specs.Sizes.{maxActions, maxSteps};
+ghost use Rattle.taskfile.specs.Reading.{nothingSeen, seenAfter, faultAt};
+ghost use Rattle.taskfile.specs.Records.{seenOf, knownOf};
 
-// The task so far, and the last record's kind and body.
-pub struct Seen {
-    pub task: Task,
+// All but the arrays: the sizes, the start and goal sets, how many steps, and the last record's kind and body.
+pub struct Known {
+    pub facts: usize,
+    pub actions: usize,
+    pub limit: usize,
+    pub start: u64,
+    pub goal: u64,
+    pub count: usize,
     pub kind: usize,
     pub body: usize,
 }
 
-pub(crate) fn nothing_seen() -> Seen
-    ensures { λ r. ⌜ seenOf r ≡ nothingSeen ⌝ }
+pub(crate) fn nothing_known() -> Known
+    ensures { λ r. ⌜ r ≡ knownOf nothingSeen ⌝ }
 {
-    let task = crate::no_task();
-    Seen {
-        task,
+    Known {
+        facts: 0,
+        actions: 0,
+        limit: 0,
+        start: 0,
+        goal: 0,
+        count: 0,
         kind: kinds::NONE,
         body: 0,
     }
 }
 
-// The table with one record more.
-fn table_after(table: Table, kind: usize, x: usize, y: usize, z: usize) -> Table
-    ensures { λ r. ⌜ r ≡ tableAfter table kind x y z ⌝ }
+// Where the record is of these sets, one cell more; an action that is none changes nothing.
+pub(crate) fn put_cell(sets: &mut [u64; ACTIONS], here: bool, action: usize, fact: usize)
+    requires { ⌜ length (now sets) ≡ maxActions ⌝ }
+    ensures { λ _. ⌜ now (sets .exit) ≡ cond here (setIn (now (sets .entry)) action fact true) (now (sets .entry)) ⌝ }
 {
-    let mut table = table;
-    if kind == kinds::SIZES {
-        table.facts = x;
-        table.actions = y;
-        table.limit = z;
-        return table;
+    if !here {
+        return;
     }
-    if kind == kinds::NEED {
-        let sets = table.needs;
-        let sets = set_in(sets, x, y, true);
-        table.needs = sets;
-        return table;
+    if ACTIONS <= action {
+        return;
     }
-    if kind == kinds::ADD {
-        let sets = table.adds;
-        let sets = set_in(sets, x, y, true);
-        table.adds = sets;
-        return table;
-    }
-    if kind == kinds::DELETE {
-        let sets = table.deletes;
-        let sets = set_in(sets, x, y, true);
-        table.deletes = sets;
-    }
-    table
+    sets[action] = facts::with_fact(sets[action], fact);
 }
 
-// A good step record comes while there is room for it, which is what the caller shows.
-fn run_after(run: Run, kind: usize, x: u8) -> Run
-    requires { ⌜ (kind ≡ stepKind → run .count < maxSteps) ⌝ }
-    ensures { λ r. ⌜ r ≡ runAfter run kind x ⌝ }
+// Where the record is a step, one step more; a step that there is no room for changes nothing.
+pub(crate) fn put_step(steps: &mut [u8; STEPS], here: bool, count: usize, action: u8)
+    requires { ⌜ length (now steps) ≡ maxSteps ⌝ }
+    ensures { λ _. ⌜ now (steps .exit) ≡ cond here (set (now (steps .entry)) count action) (now (steps .entry)) ⌝ }
 {
-    let mut run = run;
-    if kind == kinds::START {
-        run.start = facts::with_fact(run.start, parts::wide(x));
-        return run;
+    if !here {
+        return;
     }
-    if kind == kinds::GOAL {
-        run.goal = facts::with_fact(run.goal, parts::wide(x));
-        return run;
+    if STEPS <= count {
+        return;
     }
-    if kind == kinds::STEP {
-        let count = run.count;
-        run.steps[count] = x;
-        run.count = count + 1;
-    }
-    run
+    steps[count] = action;
 }
 
-// What is seen after the good record at a place.
-pub(crate) fn after(s: &[u8], at: usize, seen: Seen) -> Seen
-    requires { ⌜ faultAt (now s) at (seenOf seen) .number ≡ accepted ⌝ }
-    ensures { λ r. ⌜ seenOf r ≡ seenAfter (now (s .entry)) at (seenOf seen) ⌝ }
+// What is known after the good record at a place.
+pub(crate) fn after(s: &[u8], at: usize, known: Known) -> Known
+    requires { ⌜ faultAt (now s) at (seenOf known) .number ≡ accepted ⌝ }
+    ensures { λ r. ⌜ r ≡ knownOf (seenAfter (now (s .entry)) at (seenOf known)) ⌝ }
 {
     let kind = parts::kind_at(s, at);
-    let x = parts::byte_at(s, at, 0);
-    let y = parts::number_at(s, at, 1);
-    let z = parts::number_at(s, at, 2);
-    let body = parts::body_number(s, at);
-    let table = seen.task.table;
-    let table = table_after(table, kind, parts::wide(x), y, z);
-    let run = seen.task.run;
-    let run = run_after(run, kind, x);
-    Seen {
-        task: Task { table, run },
-        kind,
-        body,
+    let x = parts::number_at(s, at, 0);
+    let mut known = known;
+    known.kind = kind;
+    known.body = parts::body_number(s, at);
+    if kind == kinds::SIZES {
+        known.facts = x;
+        known.actions = parts::number_at(s, at, 1);
+        known.limit = parts::number_at(s, at, 2);
+        return known;
     }
+    if kind == kinds::START {
+        known.start = facts::with_fact(known.start, x);
+        return known;
+    }
+    if kind == kinds::GOAL {
+        known.goal = facts::with_fact(known.goal, x);
+        return known;
+    }
+    if kind == kinds::STEP {
+        known.count = known.count + 1;
+    }
+    known
 }

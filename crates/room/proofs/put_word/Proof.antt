@@ -21,8 +21,12 @@ loop-holds c = begun _ _ _ _ (rw (gather-itself (c .before .before .args .word .
 shared-slice-read-put : tie.Need-shared-slice-read-put Inv-loop μ-loop
 shared-slice-read-put c = search needs
 
+-- in a turn of the loop, past its test and the reading of the byte
+abbrev turn : tie.After-shared-slice-known2 Inv-loop μ-loop → tie.At-loop Inv-loop μ-loop
+turn c = c .before .before .before
+
 put-requires : tie.Need-put-requires Inv-loop μ-loop
-put-requires c κs = omega (arith, next-fits (c .before .before .before .loop .inv) (search needs))
+put-requires c κs = omega (arith, next-fits (turn c .loop .inv) (search needs))
 
 add-i : tie.Need-add-i Inv-loop μ-loop
 add-i c = omega arith
@@ -32,14 +36,17 @@ loop-less c = omega arith
 
 loop-again : tie.Need-loop-again Inv-loop μ-loop
 loop-again c =
-    let z = c .before .before .before .before .before in
-    one-more (z .before .loop .inv) (search needs) (c .before .before .put .ensures)
+    let d = c .before .before in
+    one-more (turn (d .before) .loop .inv) (search needs) (d .put .ensures)
 
 same-length : tie.Need-same-length Inv-loop μ-loop
 same-length c = length-kept (c .before .loop .inv)
 
 returns : tie.Need-returns Inv-loop μ-loop
-returns c = rw (gather-itself (c .before .before .before .before .args .word .now)) at (all-placed (c .before .loop .inv) (search needs))
+returns c =
+    let at = c .before in
+    let s = at .before .before .before in
+    rw (gather-itself (s .args .word .now)) at (all-placed (at .loop .inv) (search needs))
 
 pub put-word-spec : {M : Type 1} → statement M
 put-word-spec =

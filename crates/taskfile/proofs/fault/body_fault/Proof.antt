@@ -1,31 +1,56 @@
 -- `taskfile::fault::body_fault` meets its contract: the four tests are the definition's four checks, in its order.
 -- Assumes nothing.
-use mathlib.Core.Path.{_≡_, sym, ap, _∙_}
+use mathlib.Core.Bool.{Bool, true, false}
+use mathlib.Core.Path.{_≡_, sym, _∙_}
 use Prim.Native.Nat.{ℕ}
 use borrow.Author.Needs.{needs}
 use denote.Ref.{now}
-use Rattle.table.specs.Refusals.{Refusal, firstOf}
+use Rattle.table.specs.Refusals.{firstOf}
 use Rattle.taskfile.specs.Records.{seenOf, bodyFaults}
-use Rattle.taskfile.proofs.ReaderLaws.{bodyTests, body-tested}
+use Rattle.taskfile.proofs.ReaderLaws.{bodyNumber, body-tested, number-of-sizes, number-of-outside, number-of-order, number-of-last}
 use Rattle.taskfile.proofs.fault.body_fault.Statement.{statement}
 use Rattle.taskfile.proofs.fault.body_fault.Tie as tie
 
-abbrev number : Refusal → ℕ
-number r = r .number
+-- The places after the kind, the body and the test of the sizes, and the entry.
+abbrev entry : tie.After-kind-at → tie.Start
+entry c = c .before .before
+
+abbrev kind-read : tie.After-body-number → tie.After-kind-at
+kind-read c = c .before .before .before .before
+
+abbrev sized : tie.After-struct-known → tie.After-sizes-wrong
+sized c = c .before .before .before
+
+abbrev read : tie.After-struct-known → tie.After-body-number
+read c = sized c .before
+
+-- What it looks at.
+abbrev kind : tie.After-struct-known → ℕ
+kind c = kind-read (read c) .kind-at .result
+
+abbrev count : tie.After-struct-known → ℕ
+count c = entry (kind-read (read c)) .args .known .count
+
+abbrev wrong : tie.After-struct-known → Bool
+wrong c = sized c .sizes-wrong .result
+
+abbrev beyond : tie.After-struct-known → Bool
+beyond c = c .before .before .is-outside .result
+
+abbrev down : tie.After-struct-known → Bool
+down c = c .before .is-disordered .result
 
 -- What the function answers is the first of the tests that it has made.
-told : (c : tie.After-struct-known) → let p = c .before .before .before .before .before in let q = p .before .before .before .before in let i = q .before .before .args in
-    number (firstOf (bodyFaults (now (i .s)) (i .at) (seenOf (i .seen)))) ≡
-    number (firstOf (bodyTests (i .at) (q .kind-at .result) (i .seen .task .run .count) (c .before .before .before .sizes-wrong .result) (c .before .before .is-outside .result) (c .before .is-disordered .result)))
-told c =
-    let p = c .before .before .before .before .before in
-    let q = p .before .before .before .before in
-    let i = q .before .before .args in
-    ap number
-    (body-tested (now (i .s)) (i .at) (seenOf (i .seen)) (q .kind-at .ensures) (p .before .before .before .number-at .ensures) (p .before .before .number-at2 .ensures) (p .before .number-at3 .ensures) (p .body-number .ensures)
-    (c .before .before .before .sizes-wrong .ensures)
-    (c .before .before .is-outside .ensures)
-    (c .before .is-disordered .ensures))
+fitted : (c : tie.After-struct-known) → let q = kind-read (read c) in let i = entry q .args in
+    firstOf (bodyFaults (now (i .s)) (i .at) (seenOf (i .known))) .number ≡
+    bodyNumber (kind c) (count c) (wrong c) (beyond c) (down c)
+fitted c =
+    let p = read c in
+    let q = kind-read p in
+    let i = entry q .args in
+    body-tested (now (i .s)) (i .at) (seenOf (i .known)) (q .kind-at .ensures) (p .before .before .before .number-at .ensures)
+    (p .before .before .number-at2 .ensures) (p .before .number-at3 .ensures) (p .body-number .ensures) (sized c .sizes-wrong .ensures)
+    (c .before .before .is-outside .ensures) (c .before .is-disordered .ensures)
 
 kind-at-requires : tie.Need-kind-at-requires
 kind-at-requires c κs = search needs
@@ -52,26 +77,31 @@ is-disordered-requires : tie.Need-is-disordered-requires
 is-disordered-requires c κs = search needs
 
 returns : tie.Need-returns
-unfolding firstOf
-returns c = sym (told (c .before) ∙ rw (c .if1 .taken))
+returns c =
+    let q = c .before in
+    sym (fitted q ∙ number-of-sizes (kind q) (count q) (wrong q) (beyond q) (down q) (c .if1 .taken))
 
 returns-2 : tie.Need-returns-2
-unfolding firstOf
-returns-2 c = sym (told (c .before .before) ∙ rw (c .before .if1 .left, c .if2 .taken))
+returns-2 c =
+    let q = c .before .before in
+    sym (fitted q ∙ number-of-outside (kind q) (count q) (wrong q) (beyond q) (down q) (c .before .if1 .left) (c .if2 .taken))
 
 returns-3 : tie.Need-returns-3
-unfolding firstOf
-returns-3 c = sym (told (c .before .before .before) ∙ rw (c .before .before .if1 .left, c .before .if2 .left, c .if3 .taken))
+returns-3 c =
+    let q = c .before .before .before in
+    sym (fitted q ∙ number-of-order (kind q) (count q) (wrong q) (beyond q) (down q) (c .before .before .if1 .left) (c .before .if2 .left) (c .if3 .taken))
 
 returns-4 : tie.Need-returns-4
-unfolding firstOf
 returns-4 c =
-    sym (told (c .before .before .before .before) ∙ rw (c .before .before .before .if1 .left, c .before .before .if2 .left, c .before .if3 .left, c .if4 .taken))
+    let e = c .before in
+    let q = e .before .before .before in
+    sym (fitted q ∙ number-of-last (kind q) (count q) (wrong q) (beyond q) (down q) true (e .before .before .if1 .left) (e .before .if2 .left) (e .if3 .left) (c .if4 .taken))
 
 returns-5 : tie.Need-returns-5
-unfolding firstOf
 returns-5 c =
-    sym (told (c .before .before .before .before) ∙ rw (c .before .before .before .if1 .left, c .before .before .if2 .left, c .before .if3 .left, c .if4 .left))
+    let e = c .before in
+    let q = e .before .before .before in
+    sym (fitted q ∙ number-of-last (kind q) (count q) (wrong q) (beyond q) (down q) false (e .before .before .if1 .left) (e .before .if2 .left) (e .if3 .left) (c .if4 .left))
 
 pub body-fault-spec : {M : Type 1} → statement M
 body-fault-spec =

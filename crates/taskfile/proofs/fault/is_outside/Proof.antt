@@ -13,7 +13,8 @@ is-cell-kind-requires c κs = search needs
 returns : tie.Need-returns
 unfolding outside
 returns c =
-    rw (c .before .before .before .before .before .is-fact-kind .ensures, c .before .before .before .is-cell-kind .ensures)
+    let cell = c .before .before .before in
+    rw (cell .before .before .is-fact-kind .ensures, cell .is-cell-kind .ensures)
 
 pub is-outside-spec : {M : Type 1} → statement M
 is-outside-spec = tie.close (tie.spec is-fact-kind-requires is-cell-kind-requires returns)

@@ -31,18 +31,32 @@ wide-requires-2 c κs = search needs
 add-result : tie.Need-add-result
 add-result c = search needs
 
-tested : (c : tie.After-is-cell-kind) → isCellKind (kindAt (now (c .before .before .before .before .before .args .s)) (c .before .before .before .before .before .args .at)) ≡ c .is-cell-kind .result
+-- The place after the first byte is read.
+abbrev first : tie.After-is-cell-kind → tie.After-wide
+first c = c .before .before
+
+abbrev entry : tie.After-is-cell-kind → tie.Start
+entry c = first c .before .before .before
+
+tested : (c : tie.After-is-cell-kind) → isCellKind (kindAt (now (entry c .args .s)) (entry c .args .at)) ≡ c .is-cell-kind .result
 tested c = sym (c .is-cell-kind .ensures ∙ ap isCellKind (c .before .kind-at .ensures))
 
 returns : tie.Need-returns
 unfolding bodyAt
 returns c =
-    rw (tested (c .before .before .before) ∙ c .before .before .if1 .taken, c .wide2 .ensures, c .before .byte-at2 .ensures, c .before .before .before .before .before .wide .ensures, c .before .before .before .before .before .before .byte-at .ensures)
+    let t = c .before .before .before in
+    rw (
+      tested t ∙ c .before .before .if1 .taken,
+      c .wide2 .ensures,
+      c .before .byte-at2 .ensures,
+      first t .wide .ensures,
+      first t .before .byte-at .ensures,
+    )
 
 returns-2 : tie.Need-returns-2
 unfolding bodyAt
 returns-2 c =
-    rw (tested (c .before) ∙ c .if1 .left, c .before .before .before .wide .ensures, c .before .before .before .before .byte-at .ensures)
+    rw (tested (c .before) ∙ c .if1 .left, first (c .before) .wide .ensures, first (c .before) .before .byte-at .ensures)
 
 pub body-number-spec : {M : Type 1} → statement M
 body-number-spec =

@@ -1,20 +1,39 @@
 -- `taskfile::record::record_at` meets its contract: each return is a case of specs/Records. Assumes nothing.
+use mathlib.Core.Bool.{true}
 use mathlib.Core.Path.{_≡_, sym, ap, _∙_}
+use Prim.Native.Nat.{ℕ, _<_}
 use borrow.Author.Needs.{needs}
 use borrow.Author.Tests.{not-true, not-false}
 use native.Mathlib.Omega.{arith}
 use denote.Ref.{now}
+use lib.ListN.{length}
 use Rattle.taskfile.specs.Format.{isKind, bodyLength}
 use Rattle.taskfile.specs.Reading.{kindAt}
 use Rattle.taskfile.proofs.RecordLaws.{past-the-end, unknown, cut-short, whole}
 use Rattle.taskfile.proofs.record.record_at.Statement.{statement}
 use Rattle.taskfile.proofs.record.record_at.Tie as tie
 
-tested : (c : tie.After-is-kind) → isKind (kindAt (now (c .before .before .before .before .args .s)) (c .before .before .before .before .args .at)) ≡ c .is-kind .result
+-- The entry, and the place after the test of the kind.
+abbrev entry : tie.After-is-kind → tie.Start
+entry c = c .before .before .before .before
+
+abbrev judged : tie.After-body-length → tie.After-is-kind
+judged c = c .before .before
+
+abbrev kind : tie.After-is-kind → ℕ
+kind c = kindAt (now (entry c .args .s)) (entry c .args .at)
+
+tested : (c : tie.After-is-kind) → isKind (kind c) ≡ c .is-kind .result
 tested c = sym (c .is-kind .ensures ∙ ap isKind (c .before .kind-at .ensures))
 
-lasting : (c : tie.After-body-length) → bodyLength (kindAt (now (c .before .before .before .before .before .before .args .s)) (c .before .before .before .before .before .before .args .at)) ≡ c .body-length .result
-lasting c = sym (c .body-length .ensures ∙ ap bodyLength (c .before .before .before .kind-at .ensures))
+lasting : (c : tie.After-body-length) → bodyLength (kind (judged c)) ≡ c .body-length .result
+lasting c = sym (c .body-length .ensures ∙ ap bodyLength (judged c .before .kind-at .ensures))
+
+begun : (c : tie.After-body-length) → entry (judged c) .args .at < length (now (entry (judged c) .args .s))
+begun c = judged c .before .before .if1 .left
+
+known : (c : tie.After-body-length) → isKind (kind (judged c)) ≡ true
+known c = tested (judged c) ∙ not-false _ (c .before .if2 .left)
 
 refused-requires : tie.Need-refused-requires
 refused-requires c κs = search needs
@@ -54,9 +73,7 @@ returns-3 : tie.Need-returns-3
 returns-3 c =
     c .refused3 .ensures ∙
     sym
-    (cut-short _ _ (c .before .before .before .before .before .before .if1 .left)
-    (tested (c .before .before .before .before) ∙ not-false _ (c .before .before .before .if2 .left))
-    (omega (arith, lasting (c .before .before))))
+    (cut-short _ _ (begun (c .before .before)) (known (c .before .before)) (omega (arith, lasting (c .before .before))))
 
 add-t6 : tie.Need-add-t6
 add-t6 c = search needs
@@ -64,9 +81,8 @@ add-t6 c = search needs
 returns-4 : tie.Need-returns-4
 returns-4 c =
     sym
-    (whole _ _ (c .before .before .before .before .before .if1 .left)
-    (tested (c .before .before .before) ∙ not-false _ (c .before .before .if2 .left))
-    (omega (arith, lasting (c .before))) ∙ rw (lasting (c .before), ← c .before .before .before .before .kind-at .ensures))
+    (whole _ _ (begun (c .before)) (known (c .before)) (omega (arith, lasting (c .before)))
+    ∙ rw (lasting (c .before), ← judged (c .before) .before .kind-at .ensures))
 
 pub record-at-spec : {M : Type 1} → statement M
 record-at-spec =

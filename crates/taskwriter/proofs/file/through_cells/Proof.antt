@@ -9,7 +9,7 @@ use Rattle.taskwriter.proofs.file.through_cells.Tie as tie
 
 -- The places after the calls, each from the next, and the entry from the first.
 abbrev entry : tie.After-through-goals → tie.Start
-entry c = c .before .before .before .before .before .before .before
+entry c = let sets-read = c .before in let table-read = sets-read .before .before .before in table-read .before .before .before
 
 abbrev goals-of : tie.After-cell-records → tie.After-through-goals
 goals-of c = c .before .before .before .before

@@ -10,6 +10,9 @@ use Rattle.taskwriter.proofs.file.through_goals.Tie as tie
 abbrev entry : tie.After-sizes → tie.Start
 entry c = c .before .before .before
 
+abbrev start-of : tie.After-fact-records → tie.After-sizes
+start-of c = c .before .before .before .before
+
 sizes-requires : tie.Need-sizes-requires
 sizes-requires c κs = search needs
 
@@ -20,7 +23,7 @@ fact-records-requires c κs =
 
 fact-records-requires-2 : tie.Need-fact-records-requires-2
 fact-records-requires-2 c κs =
-    let s = entry (c .before .before .before .before .before .before .before) in
+    let s = entry (start-of (c .before .before .before)) in
     (omega (arith, facts-fit (s .args .task) (s .pre)), s .pre .facts-high)
 
 same-length : tie.Need-same-length
@@ -31,7 +34,7 @@ unfolding throughGoals
 returns c =
     let y = c .before .before in
     let x = y .before .before .before .before in
-    placed-more (placed-more (x .before .before .before .before .sizes .ensures) (x .fact-records .ensures))
+    placed-more (placed-more (start-of x .sizes .ensures) (x .fact-records .ensures))
     (y .fact-records2 .ensures)
 
 pub through-goals-spec : {M : Type 1} → statement M

@@ -9,6 +9,9 @@ use Rattle.taskwriter.proofs.file.whole.Tie as tie
 abbrev entry : tie.After-through-cells → tie.Start
 entry c = c .before .before .before .before
 
+abbrev cells-of : tie.After-step-records → tie.After-through-cells
+cells-of c = c .before .before .before .before
+
 through-cells-requires : tie.Need-through-cells-requires
 through-cells-requires c κs = search needs
 
@@ -19,7 +22,7 @@ step-records-requires c κs =
 
 put-requires : tie.Need-put-requires
 put-requires c κs =
-    let s = entry (c .before .before .before .before .before .before .before) in
+    let s = entry (cells-of (c .before .before .before)) in
     omega (arith, steps-fit (s .args .task) (s .pre))
 
 same-length : tie.Need-same-length
@@ -29,7 +32,7 @@ returns : tie.Need-returns
 returns c =
     let y = c .before .before in
     let x = y .before .before .before .before in
-    let z = x .before .before .before .before in
+    let z = cells-of x in
     rw (file-is (entry z .args .task))
     (placed-more (placed-more (z .through-cells .ensures) (x .step-records .ensures)) (y .put .ensures))
 

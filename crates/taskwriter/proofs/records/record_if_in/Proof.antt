@@ -10,8 +10,8 @@ contains-requires c κs = search needs
 
 put-word-requires : tie.Need-put-word-requires
 put-word-requires c κs =
-    let s = c .before .before .before .before .before in
-    piece-fits _ (c .before .before .contains .ensures) _ _ lastPlace (c .before .if1 .taken) (s .pre)
+    let tested = c .before .before in
+    piece-fits _ (tested .contains .ensures) _ _ lastPlace (c .before .if1 .taken) (tested .before .before .before .pre)
 
 same-length : tie.Need-same-length
 same-length c = search needs

@@ -10,14 +10,15 @@ use borrow.Author.Tests.{eq-eqb, ne-eqb}
 use Rattle.table.specs.Lists.{gather}
 use Rattle.table.specs.Tasks.{WellFormed}
 use Rattle.table.specs.declared.Task.{Task}
-use Rattle.taskfile.specs.declared.TaskRead.{TaskRead}
+use Rattle.table.specs.declared.TaskReply.{TaskReply}
 use Rattle.taskfile.specs.Format.{sizesKind, endKind, isCellKind, bodyLength, fileOf}
 use Rattle.taskfile.specs.Reading.{Seen, nothingSeen, kindAt, byteAt, nextAt, tableAfter, seenAfter, faultAt, Reads, ReadsFile, faulty, good, ended, trailing}
 use Rattle.taskfile.proofs.Clear.{Clear, clear}
 use Rattle.table.proofs.GatherLaws.{gather-same, gather-next}
-use Rattle.taskfile.proofs.Ranks.{slots, rank, sizesRecord, pieceAt, file-by-rank, sizes-first, gather-up-to}
+use Rattle.taskfile.proofs.Ranks.{slots, ranks, rank, sizesRecord, pieceAt, file-by-rank, sizes-first, gather-up-to}
+use Rattle.taskfile.proofs.PositionLaws.{apart}
 use Rattle.taskfile.proofs.Families.{Family, ofNone, ofSizes, ofFact, ofCell, ofStep, family}
-use Rattle.taskfile.proofs.Fitting.{Told, slotOf, recordBytes, fact-bytes, cell-bytes, step-bytes}
+use Rattle.taskfile.proofs.Fitting.{Fitted, fitted-known, slotOf, recordBytes, fact-bytes, cell-bytes, step-bytes}
 use Rattle.taskfile.proofs.OneMore.{taskAfter}
 use Rattle.taskfile.proofs.RecordsAfter.{piece-after}
 use Rattle.taskfile.proofs.Standing.{Standing, good-next}
@@ -46,22 +47,22 @@ next-taken s at n l =
     (rw (drop-cons s at 0 (omega arith), after) (ap (λ (b : List ℕ). kindAt s at ∷ b) (body-taken s at 0 n (omega arith))))
 
 -- A good record after the first is its bytes.
-record-taken : (s : List ℕ) (at : ℕ) (t : Task) → Told t (kindAt s at) (byteAt s at 0) (byteAt s at 1)
+record-taken : (s : List ℕ) (at : ℕ) (t : Task) → Fitted t (kindAt s at) (byteAt s at 0) (byteAt s at 1)
     → kindAt s at ∷ bodyBytes s at 0 (bodyLength (kindAt s at)) ≡ recordBytes (kindAt s at) (byteAt s at 0) (byteAt s at 1)
 unfolding bodyLength isCellKind
 record-taken s at t tells = by (family (kindAt s at))
   where
     by : Family (kindAt s at)
         → kindAt s at ∷ bodyBytes s at 0 (bodyLength (kindAt s at)) ≡ recordBytes (kindAt s at) (byteAt s at 0) (byteAt s at 1)
-    by (ofNone out nothing) = let far = out (omega arith) in absurd (omega arith)
-    by (ofSizes is) = absurd (omega arith)
+    by (ofNone out nothing) = absurd (apart (kindAt s at) endKind (tells .last) (sym (out (fitted-known tells))))
+    by (ofSizes is) = absurd (apart sizesKind (kindAt s at) (tells .later) is)
     by (ofFact kind) = rw (kind .length, fact-bytes kind (byteAt s at 0) (byteAt s at 1))
     by (ofCell kind) = rw (kind .length, cell-bytes kind (byteAt s at 0) (byteAt s at 1))
     by (ofStep is) = rw (is, step-bytes (byteAt s at 0) (byteAt s at 1))
 
 -- ---- the records so far
 
-gather-after : (seen : Seen) (slot k x y z : ℕ) → Standing seen slot → Told (seen .task) k x y
+gather-after : (seen : Seen) (slot k x y z : ℕ) → Standing seen slot → Fitted (seen .task) k x y
     → rank (seen .kind) slot < rank k (slotOf (seen .task) k x y)
     → gather (pieceAt (taskAfter (seen .task) k x y z)) (suc (rank k (slotOf (seen .task) k x y))) ≡
     gather (pieceAt (seen .task)) (suc (rank (seen .kind) slot)) ++ recordBytes k x y
@@ -124,18 +125,18 @@ file-ended {s} (going {at} {seen} slot stands fits bytes) c is last = (
   stands .formed,
   last-byte s at last
       ∙ ap₂ (λ (b : List ℕ) (k : ℕ). b ++ k ∷ [])
-      (bytes ∙ sym (gather-up-to (pieceAt (seen .task)) (suc (rank (seen .kind) slot)) (endKind * slots) (omega arith) (λ r l. stands .above r l)))
+      (bytes ∙ sym (gather-up-to (pieceAt (seen .task)) (suc (rank (seen .kind) slot)) ranks (omega arith) (λ r l. stands .above r l)))
       is
       ∙ sym (file-by-rank (seen .task) (stands .formed)),
 )
 
-accepted-from : {s : List ℕ} {r : TaskRead} {at : ℕ} {seen : Seen} → Reads s r at seen → Sofar s at seen → r .number ≡ 0
+accepted-from : {s : List ℕ} {r : TaskReply} {at : ℕ} {seen : Seen} → Reads s r at seen → Sofar s at seen → r .number ≡ 0
     → WellFormed (r .task) × (s ≡ fileOf (r .task))
-accepted-from (faulty f e) sofar ok = let n = ap (λ (q : TaskRead). q .number) e in absurd (omega arith)
+accepted-from (faulty f e) sofar ok = let n = ap (λ (q : TaskReply). q .number) e in absurd (omega arith)
 accepted-from (good c more rest) sofar ok = accepted-from rest (sofar-next sofar c more) ok
 accepted-from (ended c is last e) sofar ok = rw e (file-ended sofar c is last)
-accepted-from (trailing c is more e) sofar ok = let n = ap (λ (q : TaskRead). q .number) e in absurd (omega arith)
+accepted-from (trailing c is more e) sofar ok = let n = ap (λ (q : TaskReply). q .number) e in absurd (omega arith)
 
 -- What is accepted is the file of the well-formed task that is read: demand 2's first sentence, one way.
-pub accepted-file : {s : List ℕ} {r : TaskRead} → ReadsFile s r → r .number ≡ 0 → WellFormed (r .task) × (s ≡ fileOf (r .task))
+pub accepted-file : {s : List ℕ} {r : TaskReply} → ReadsFile s r → r .number ≡ 0 → WellFormed (r .task) × (s ≡ fileOf (r .task))
 accepted-file reads ok = accepted-from reads begun ok

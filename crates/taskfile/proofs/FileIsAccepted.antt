@@ -15,8 +15,9 @@ use Rattle.taskfile.specs.Format.{sizesKind, endKind, isCellKind, bodyLe
 use Rattle.taskfile.specs.Reading.{Seen, nothingSeen, kindAt, byteAt, bodyAt, nextAt, seenAfter, tableAfter, acceptedRead, Reads, ReadsFile, good, ended}
 use Rattle.taskfile.proofs.Clear.{faultless}
 use Rattle.table.proofs.GatherLaws.{gather-more, gather-next}
-use Rattle.taskfile.proofs.Ranks.{slots, rank, pieceAt, file-by-rank, no-piece, first-piece, none-before, sizes-first}
-use Rattle.taskfile.proofs.Fitting.{Told, told, slotOf, record-length}
+use Rattle.taskfile.proofs.Ranks.{slots, ranks, rank, pieceAt, file-by-rank, no-piece, first-piece, none-before, sizes-first}
+use Rattle.taskfile.proofs.PositionLaws.{order, apart}
+use Rattle.taskfile.proofs.Fitting.{Fitted, fitted, slotOf, record-length}
 use Rattle.taskfile.proofs.OneMore.{taskAfter}
 use Rattle.taskfile.proofs.RecordsAfter.{piece-after}
 use Rattle.table.proofs.FlagLaws.{by-order}
@@ -32,7 +33,7 @@ unfolding bareTask taskAfter tableAfter
 agrees-first t b = record {
   sizes = record { facts = refl; actions = refl; limit = refl };
   pieces = λ q l.
-      by-order q slots (λ low. no-piece bare q low ∙ sym (no-piece t q low))
+      by-order q (rank sizesKind 0) (λ low. no-piece bare q low ∙ sym (no-piece t q low))
       (λ high. let is : q ≡ rank sizesKind 0 = omega arith in rw is (first-piece bare ∙ sym (first-piece t)));
 }
   where
@@ -47,28 +48,28 @@ byte-of s before after m n e d = rw (e, d) (getD-append-add before after n 0)
 
 -- The bytes after the record of a rank.
 rest-of : Task → ℕ → List ℕ
-rest-of t r = gather (λ i. pieceAt t (suc r + i)) (endKind * slots - suc r) ++ endKind ∷ []
+rest-of t r = gather (λ i. pieceAt t (suc r + i)) (ranks - suc r) ++ endKind ∷ []
 
-file-split : (t : Task) (s : List ℕ) → s ≡ gather (pieceAt t) (endKind * slots) ++ endKind ∷ [] → (r : ℕ) → r < endKind * slots
+file-split : (t : Task) (s : List ℕ) → s ≡ gather (pieceAt t) ranks ++ endKind ∷ [] → (r : ℕ) → r < ranks
     → s ≡ gather (pieceAt t) r ++ (pieceAt t r ++ rest-of t r)
 unfolding rest-of
 file-split t s e r l =
-    let all : endKind * slots ≡ suc r + (endKind * slots - suc r) = omega arith in
+    let all : ranks ≡ suc r + (ranks - suc r) = omega arith in
     e
     ∙ ap (λ (n : ℕ). gather (pieceAt t) n ++ endKind ∷ []) all
-    ∙ rw (gather-more (pieceAt t) (suc r) (endKind * slots - suc r), gather-next (pieceAt t) r) (simp append-assoc)
+    ∙ rw (gather-more (pieceAt t) (suc r) (ranks - suc r), gather-next (pieceAt t) r) (simp append-assoc)
 
 -- ---- reading on from a rank
 
-module _ (t : Task) (formed : WellFormed t) (s : List ℕ) (whole : s ≡ gather (pieceAt t) (endKind * slots) ++ endKind ∷ []) where
+module _ (t : Task) (formed : WellFormed t) (s : List ℕ) (whole : s ≡ gather (pieceAt t) ranks ++ endKind ∷ []) where
   -- Where the record of a rank stands in the file, if the task has it; and what is to be shown of that rank: from every state
   -- that holds the task's records below it, reading on accepts the task.
-  abbrev placeOf : ℕ → ℕ
-  placeOf r = length (gather (pieceAt t) r)
+  abbrev startOf : ℕ → ℕ
+  startOf r = length (gather (pieceAt t) r)
 
   abbrev From : ℕ → Type 0
   From r = (seen : Seen) (slot : ℕ) → Standing seen slot → rank (seen .kind) slot < r → Agrees t seen r
-      → Reads s (acceptedRead t) (placeOf r) seen
+      → Reads s (acceptedRead t) (startOf r) seen
 
   agrees-absent : (seen : Seen) (slot r : ℕ) → Standing seen slot → rank (seen .kind) slot < r → Agrees t seen r → pieceAt t r ≡ []
       → Agrees t seen (suc r)
@@ -79,12 +80,12 @@ module _ (t : Task) (formed : WellFormed t) (s : List ℕ) (whole : s ≡ gather
       by q false e l = let other = eqb-false q r e in agrees .pieces q (omega arith)
 
   module _ (seen : Seen) (slot r : ℕ) (stands : Standing seen slot) (later : rank (seen .kind) slot < r) (agrees : Agrees t seen r)
-      (here : Here t seen r (kindAt s (placeOf r)) (byteAt s (placeOf r) 0) (byteAt s (placeOf r) 1)) where
-    agrees-after : Told (seen .task) (kindAt s (placeOf r)) (byteAt s (placeOf r) 0) (byteAt s (placeOf r) 1)
-        → Agrees t (seenAfter s (placeOf r) seen) (suc r)
+      (here : Here t seen r (kindAt s (startOf r)) (byteAt s (startOf r) 0) (byteAt s (startOf r) 1)) where
+    agrees-after : Fitted (seen .task) (kindAt s (startOf r)) (byteAt s (startOf r) 0) (byteAt s (startOf r) 1)
+        → Agrees t (seenAfter s (startOf r) seen) (suc r)
     unfolding seenAfter tableAfter taskAfter
     agrees-after tells =
-        let other : eqb (kindAt s (placeOf r)) sizesKind ≡ false = ne-eqb (kindAt s (placeOf r)) sizesKind (omega arith) in
+        let other : eqb (kindAt s (startOf r)) sizesKind ≡ false = ne-eqb (kindAt s (startOf r)) sizesKind (apart sizesKind (kindAt s (startOf r)) (tells .later)) in
         record {
           sizes = record {
             facts = rw other (agrees .sizes .facts);
@@ -95,28 +96,28 @@ module _ (t : Task) (formed : WellFormed t) (s : List ℕ) (whole : s ≡ gather
         }
       where
         k : ℕ
-        k = kindAt s (placeOf r)
+        k = kindAt s (startOf r)
 
         x : ℕ
-        x = byteAt s (placeOf r) 0
+        x = byteAt s (startOf r) 0
 
         y : ℕ
-        y = byteAt s (placeOf r) 1
+        y = byteAt s (startOf r) 1
 
         pieces-after : (q : ℕ) (b : Bool) → eqb q r ≡ b → q < suc r
-            → pieceAt (taskAfter (seen .task) k x y (byteAt s (placeOf r) 2)) q ≡ pieceAt t q
+            → pieceAt (taskAfter (seen .task) k x y (byteAt s (startOf r) 2)) q ≡ pieceAt t q
         pieces-after q true e l =
-            piece-after (seen .task) k x y (byteAt s (placeOf r) 2) (stands .formed) tells q
+            piece-after (seen .task) k x y (byteAt s (startOf r) 2) (stands .formed) tells q
             ∙ rw (here .place, e) (here .bytes ∙ ap (pieceAt t) (sym (eqb-true q r e)))
         pieces-after q false e l =
             let far = eqb-false q r e in
-            piece-after (seen .task) k x y (byteAt s (placeOf r) 2) (stands .formed) tells q
+            piece-after (seen .task) k x y (byteAt s (startOf r) 2) (stands .formed) tells q
             ∙ rw (here .place, e) (agrees .pieces q (omega arith))
 
-    read-here : r < endKind * slots → From (suc r) → Reads s (acceptedRead t) (placeOf r) seen
+    read-here : r < ranks → From (suc r) → Reads s (acceptedRead t) (startOf r) seen
     unfolding seenAfter
     read-here l more =
-        let at = placeOf r in
+        let at = startOf r in
         let k = kindAt s at in
         let x = byteAt s at 0 in
         let y = byteAt s at 1 in
@@ -126,54 +127,54 @@ module _ (t : Task) (formed : WellFormed t) (s : List ℕ) (whole : s ≡ gather
         let piece-part = length-append (pieceAt t r) (rest-of t r) in
         let place = here .place in
         let clear = clear-later s at seen slot stands (here .fit) (omega arith) (omega arith) in
-        let tells = told (seen .task) k x y (stands .formed) (here .fit) in
-        let not-end : k ≡ endKind → ⊥ = λ is. let last = tells .last in omega arith in
+        let tells = fitted (seen .task) k x y (stands .formed) (here .fit) in
+        let not-end : k ≡ endKind → ⊥ = λ is. apart k endKind (tells .last) (sym is) in
         let next = good-next s at seen slot stands clear not-end in
         let sum = ap length (gather-next (pieceAt t) r) ∙ length-append (gather (pieceAt t) r) (pieceAt t r) in
-        let next-place : placeOf (suc r) ≡ nextAt s at = omega arith in
+        let next-place : startOf (suc r) ≡ nextAt s at = omega arith in
         good {at = at} {seen = seen} (faultless s at seen clear) not-end
         (subst (λ (m : ℕ). Reads s (acceptedRead t) m (seenAfter s at seen)) next-place
         (more (seenAfter s at seen) (slotOf (seen .task) k x y) (next .stands) (omega arith) (agrees-after tells)))
 
-  step : (r : ℕ) → r < endKind * slots → From (suc r) → From r
+  step : (r : ℕ) → r < ranks → From (suc r) → From r
   step r l more seen slot stands later agrees = by (look t formed seen slot r stands later agrees)
     where
-      by : Look t seen r → Reads s (acceptedRead t) (placeOf r) seen
+      by : Look t seen r → Reads s (acceptedRead t) (startOf r) seen
       by (absent none) =
           let nothing-more : gather (pieceAt t) (suc r) ≡ gather (pieceAt t) r =
           gather-next (pieceAt t) r ∙ rw none (append-nil (gather (pieceAt t) r)) in
-          let same : placeOf (suc r) ≡ placeOf r = ap length nothing-more in
+          let same : startOf (suc r) ≡ startOf r = ap length nothing-more in
           subst (λ (m : ℕ). Reads s (acceptedRead t) m seen) same
           (more seen slot stands (omega arith) (agrees-absent seen slot r stands later agrees none))
       by (short k x is here) =
           let split : s ≡ gather (pieceAt t) r ++ k ∷ x ∷ rest-of t r = rw is at (file-split t s whole r l) in
-          let kind = byte-of s (gather (pieceAt t) r) (k ∷ x ∷ rest-of t r) (placeOf r) 0 split (omega arith) in
-          let first = byte-of s (gather (pieceAt t) r) (k ∷ x ∷ rest-of t r) (placeOf r + 1 + 0) 1 split (omega arith) in
-          read-here seen slot r stands later agrees (rw (kind, first) (here (byteAt s (placeOf r) 1))) l more
+          let kind = byte-of s (gather (pieceAt t) r) (k ∷ x ∷ rest-of t r) (startOf r) 0 split (omega arith) in
+          let first = byte-of s (gather (pieceAt t) r) (k ∷ x ∷ rest-of t r) (startOf r + 1 + 0) 1 split (omega arith) in
+          read-here seen slot r stands later agrees (rw (kind, first) (here (byteAt s (startOf r) 1))) l more
       by (long k x y is here) =
           let split : s ≡ gather (pieceAt t) r ++ k ∷ x ∷ y ∷ rest-of t r = rw is at (file-split t s whole r l) in
-          let kind = byte-of s (gather (pieceAt t) r) (k ∷ x ∷ y ∷ rest-of t r) (placeOf r) 0 split (omega arith) in
-          let first = byte-of s (gather (pieceAt t) r) (k ∷ x ∷ y ∷ rest-of t r) (placeOf r + 1 + 0) 1 split (omega arith) in
-          let second = byte-of s (gather (pieceAt t) r) (k ∷ x ∷ y ∷ rest-of t r) (placeOf r + 1 + 1) 2 split (omega arith) in
+          let kind = byte-of s (gather (pieceAt t) r) (k ∷ x ∷ y ∷ rest-of t r) (startOf r) 0 split (omega arith) in
+          let first = byte-of s (gather (pieceAt t) r) (k ∷ x ∷ y ∷ rest-of t r) (startOf r + 1 + 0) 1 split (omega arith) in
+          let second = byte-of s (gather (pieceAt t) r) (k ∷ x ∷ y ∷ rest-of t r) (startOf r + 1 + 1) 2 split (omega arith) in
           read-here seen slot r stands later agrees (rw (kind, first, second) here) l more
 
-  at-end : (r : ℕ) → r ≡ endKind * slots → From r
+  at-end : (r : ℕ) → r ≡ ranks → From r
   at-end r all seen slot stands later agrees =
       let same = same-task (seen .task) t (stands .formed) formed (agrees .sizes) (λ q l. agrees .pieces q (omega arith)) in
       let split : s ≡ gather (pieceAt t) r ++ endKind ∷ [] = rw all whole in
-      let is = byte-of s (gather (pieceAt t) r) (endKind ∷ []) (placeOf r) 0 split (omega arith) in
+      let is = byte-of s (gather (pieceAt t) r) (endKind ∷ []) (startOf r) 0 split (omega arith) in
       let last = ap length split ∙ length-append (gather (pieceAt t) r) (endKind ∷ []) in
-      ended {at = placeOf r} {seen = seen} (faultless s (placeOf r) seen (clear-end s (placeOf r) seen slot stands is (omega arith))) is (omega arith)
+      ended {at = startOf r} {seen = seen} (faultless s (startOf r) seen (clear-end s (startOf r) seen slot stands is (omega arith))) is (omega arith)
       (ap acceptedRead (sym same))
 
-  from-rank : (n r : ℕ) → r + n ≡ endKind * slots → From r
+  from-rank : (n r : ℕ) → r + n ≡ ranks → From r
   from-rank zero r e = at-end r (omega arith)
   from-rank (suc n) r e = step r (omega arith) (from-rank n (suc r) (omega arith))
 
   -- ---- the first record
 
   sizes-at : s ≡ sizesKind ∷ t .table .facts ∷ t .table .actions ∷ t .table .limit ∷ rest-of t (rank sizesKind 0)
-  sizes-at = rw (none-before t, first-piece t) at (file-split t s whole (rank sizesKind 0) (omega arith))
+  sizes-at = rw (none-before t, first-piece t) at (file-split t s whole (rank sizesKind 0) (omega (arith, order)))
 
   from-start : ReadsFile s (acceptedRead t)
   unfolding bodyLength isCellKind
@@ -186,8 +187,8 @@ module _ (t : Task) (formed : WellFormed t) (s : List ℕ) (whole : s ≡ gather
       let first = bareSeen (t .table .facts) (t .table .actions) (t .table .limit) (bodyAt s 0) in
       let sees : seenAfter s 0 nothingSeen ≡ first = rw (← x, ← y, ← z) (seen-first s is) in
       let clear = clear-first t formed s is x y z four in
-      let next : placeOf (suc (rank sizesKind 0)) ≡ nextAt s 0 = rw is (ap length (sizes-first t)) in
-      let rest = from-rank (endKind * slots - suc (rank sizesKind 0)) (suc (rank sizesKind 0)) (omega arith) in
+      let next : startOf (suc (rank sizesKind 0)) ≡ nextAt s 0 = rw is (ap length (sizes-first t)) in
+      let rest = from-rank (ranks - suc (rank sizesKind 0)) (suc (rank sizesKind 0)) (omega (arith, order)) in
       good {at = 0} {seen = nothingSeen} (faultless s 0 nothingSeen clear) (λ e. omega arith)
       (subst₂ (Reads s (acceptedRead t)) next (sym sees)
       (rest first 0 (subst (λ (seen : Seen). Standing seen 0) sees (stands-first s clear)) (omega arith) (agrees-first t (bodyAt s 0))))
