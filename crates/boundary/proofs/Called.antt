@@ -16,7 +16,7 @@ use Rattle.boundary.proofs.zp_open.Reads as zp-open
 use Rattle.boundary.proofs.zp_edit.Reads as zp-edit
 use Rattle.boundary.proofs.zp_list.Reads as zp-list
 use Rattle.boundary.proofs.zp_listing.Reads as zp-listing
-use Rattle.boundary.specs.Calls.{HandsRecord, ReadsTask, WritesTask, ChecksRun, AppliesList, SolvesTask, OpensSession, EditsSession, ListsSession, ListsInput}
+use Rattle.boundary.specs.BoundaryCalls.{HandsRecord, ReadsTask, WritesTask, ChecksRun, AppliesList, SolvesTask, OpensSession, EditsSession, ListsSession, ListsInput}
 
 -- ---- the ways in which slices are lent
 

@@ -9,13 +9,12 @@ use lib.Dec.{eqb}
 use lib.ListN.{length, drop-of-length-le}
 use Rattle.change.proofs.ApplyLaws.{applies-unformed, applies-unique}
 use Rattle.change.specs.Applying.{Applies}
-use Rattle.change.specs.declared.Applied.{Applied}
+use Rattle.table.specs.declared.TaskReply.{TaskReply}
 use Rattle.change.specs.declared.Edit.{Edit}
 use Rattle.room.proofs.PlacingLaws.{placed-whole}
 use Rattle.room.specs.Placing.{Placed}
 use Rattle.session.proofs.CallLaws.{edit-malformed}
 use Rattle.session.specs.Calls.{Edits}
-use Rattle.session.specs.declared.Edited.{Edited}
 use Rattle.table.specs.Refusals.{Refusal, accepted}
 use Rattle.table.specs.Tasks.{Shaped, formed}
 use Rattle.table.specs.declared.Task.{Task}
@@ -51,15 +50,15 @@ formed-length ws h = pick (eqb (length ws) taskWords) refl
         absurd (omega arith)
 
 -- So there are 166 words where the list was applied, and where the edit was made.
-pub applied-length : (ws list : List ℕ) (y : Applied) → Applies (taskIn ws) list y → y .number ≡ accepted → length ws ≡ taskWords
+pub applied-length : (ws list : List ℕ) (y : TaskReply) → Applies (taskIn ws) list y → y .number ≡ accepted → length ws ≡ taskWords
 applied-length ws list y a ok = pick (formed (taskIn ws)) refl
   where
     pick : (b : Bool) → formed (taskIn ws) ≡ b → length ws ≡ taskWords
     pick true e = formed-length ws e
     pick false e =
-        absurd (omega (arith, ap (λ (q : Applied). q .number) (applies-unique (taskIn ws) list y _ a (applies-unformed (taskIn ws) list e))))
+        absurd (omega (arith, ap (λ (q : TaskReply). q .number) (applies-unique (taskIn ws) list y _ a (applies-unformed (taskIn ws) list e))))
 
-pub edited-length : (ws table : List ℕ) (e : Edit) (y : Edited) (after : List ℕ) → Edits (taskIn ws) table e y after → y .number ≡ accepted
+pub edited-length : (ws table : List ℕ) (e : Edit) (y : TaskReply) (after : List ℕ) → Edits (taskIn ws) table e y after → y .number ≡ accepted
     → length ws ≡ taskWords
 edited-length ws table e y after a ok = pick (formed (taskIn ws)) refl
   where

@@ -53,10 +53,10 @@ pub record Given (n : ℕ) (words before after : List ℕ) (r : ℕ) : Type 0 wh
   pub room-is : after ≡ placed before 0 words
 
 -- The one rule. Where the room has fewer than n words, 255 is returned and nothing is called: the room for the answer is as
--- it was, and `Untouched` says it of what else was lent. Otherwise the call is made, the n words that `Told` says are placed
+-- it was, and `Untouched` says it of what else was lent. Otherwise the call is made, the n words that `Due` says are placed
 -- from the first on, nothing beside, and the first of them is returned. These n words are the one thing that a refused call
 -- writes.
-pub record Answers (n : ℕ) (Untouched : Type 0) (Told : List ℕ → Type 0) (before after : List ℕ) (r : ℕ) : Type 0 where
+pub record Answers (n : ℕ) (Untouched : Type 0) (Due : List ℕ → Type 0) (before after : List ℕ) (r : ℕ) : Type 0 where
   pub short : length before < n → (r ≡ answerTooShort) × (after ≡ before) × Untouched
   pub given : n ≤ length before
-      → (words : List ℕ) × (length words ≡ n) × Told words × (r ≡ getD words 0 0) × (after ≡ words ++ drop n before)
+      → (words : List ℕ) × (length words ≡ n) × Due words × (r ≡ getD words 0 0) × (after ≡ words ++ drop n before)

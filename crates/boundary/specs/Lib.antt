@@ -1,4 +1,4 @@
 -- What the contracts of `boundary` cite.
 pub mod Words
 pub mod Answers
-pub mod Calls
+pub mod BoundaryCalls

@@ -28,7 +28,7 @@ use taskfile::read;
 use taskfile::record::record_at;
 use taskwriter::write;
 use words::task_in;
-ghost use Rattle.boundary.specs.Calls.{HandsRecord, ReadsTask, WritesTask, ChecksRun, AppliesList, SolvesTask, OpensSession, EditsSession, ListsSession, ListsInput};
+ghost use Rattle.boundary.specs.BoundaryCalls.{HandsRecord, ReadsTask, WritesTask, ChecksRun, AppliesList, SolvesTask, OpensSession, EditsSession, ListsSession, ListsInput};
 
 // The record at a place of the file; its body is `length` bytes of the file from `start` on.
 #[no_mangle]

@@ -7,12 +7,12 @@ use lib.ListN.{take}
 use Rattle.table.specs.Outcomes.{Outcome}
 use Rattle.taskfile.specs.Lengths.{programRoom}
 use Rattle.taskfile.specs.Reading.{ReadsFile}
-use Rattle.taskfile.specs.declared.TaskRead.{TaskRead}
-use Rattle.taskfile.proofs.Files.{cut-decides}
+use Rattle.table.specs.declared.TaskReply.{TaskReply}
+use Rattle.taskfile.proofs.FilesAreTasks.{cut-decides}
 use Rattle.listing.specs.Listing.{Lists, ListsInto}
 
 -- What is read alike is listed alike.
-module _ {s other : List ℕ} (same : (r : TaskRead) → ReadsFile s r → ReadsFile other r) where
+module _ {s other : List ℕ} (same : (r : TaskReply) → ReadsFile s r → ReadsFile other r) where
   alike : {text : List ℕ} → Lists s text → Lists other text
   alike a = record {
     read = a .read;

@@ -10,7 +10,7 @@ use Rattle.runcheck.specs.OpenNeeds.{checked}
 use Rattle.solve.specs.Solving.{Solves}
 use Rattle.table.specs.Outcomes.{Outcome, answered, given}
 use Rattle.solve.proofs.SolveLaws.{solve-unique}
-use Rattle.taskfile.specs.declared.TaskRead.{TaskRead}
+use Rattle.table.specs.declared.TaskReply.{TaskReply}
 use Rattle.taskfile.proofs.Unique.{reads-unique}
 use Rattle.listing.specs.Text.{textOf, longestText}
 use Rattle.listing.specs.Listing.{answerRoom, Lists, ListsInto}
@@ -20,9 +20,9 @@ use Rattle.listing.proofs.TextLength.{text-most}
 pub text-unique : {input text other : List ℕ} → Lists input text → Lists input other → text ≡ other
 text-unique a b =
     let e = reads-unique (a .reads) (b .reads) in
-    let s = subst (λ (r : TaskRead). Solves (r .task) answerRoom (b .solved)) (sym e) (b .solves) in
+    let s = subst (λ (r : TaskReply). Solves (r .task) answerRoom (b .solved)) (sym e) (b .solves) in
     let f = solve-unique (a .read .task) answerRoom (a .solved) (b .solved) (a .solves) s in
-    a .text-is ∙ ap (λ (r : TaskRead). textOf r (checked (r .task)) (a .solved)) e ∙
+    a .text-is ∙ ap (λ (r : TaskReply). textOf r (checked (r .task)) (a .solved)) e ∙
     ap (λ (o : Outcome). textOf (b .read) (checked (b .read .task)) o) f ∙ sym (b .text-is)
 
 -- Two outcomes of listing an input into a room are equal.

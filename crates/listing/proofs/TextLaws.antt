@@ -16,7 +16,7 @@ use Rattle.solve.specs.Solving.{told, Solves}
 use Rattle.table.proofs.OutcomeLaws.{given-whole, given-within}
 use Rattle.table.specs.Outcomes.{Outcome, given}
 use Rattle.taskfile.specs.Reading.{ReadsFile}
-use Rattle.taskfile.specs.declared.TaskRead.{TaskRead}
+use Rattle.table.specs.declared.TaskReply.{TaskReply}
 use Rattle.room.specs.Placing.{Placed}
 use Rattle.room.proofs.PlacingLaws.{placed-more, placed-whole}
 use Rattle.listing.specs.Text.{refusedLine, firstLines, answerLines, readText, textOf}
@@ -24,7 +24,7 @@ use Rattle.listing.specs.Listing.{answerRoom, ListsInto}
 
 -- ---- the text as it is placed: a refused file, a refused solve, an answer
 
-module _ (r : TaskRead) (c : Checked) (o : Outcome) {a b : List ℕ} {next : ℕ} where
+module _ (r : TaskReply) (c : Checked) (o : Outcome) {a b : List ℕ} {next : ℕ} where
   pub refused-placed : 0 < r .number → Placed a b 0 next (refusedLine (r .number) (r .place)) → Placed a b 0 next (textOf r c o)
   unfolding textOf
   refused-placed h p = rw (ne-eqb (r .number) accepted (λ e. omega arith)) p
@@ -64,7 +64,7 @@ solved-fits {t} {room} {o} s = pick (formed t) refl
 
 -- ---- reading, checking, solving and telling are the listing
 
-pub listed : {input room : List ℕ} {o out : Outcome} (r : TaskRead) (c : Checked) → ReadsFile input r → c ≡ checked (r .task)
+pub listed : {input room : List ℕ} {o out : Outcome} (r : TaskReply) (c : Checked) → ReadsFile input r → c ≡ checked (r .task)
     → Solves (r .task) answerRoom o → out ≡ given (textOf r c o) room → ListsInto input room out
 listed {input} {room} {o} {out} r c reads e solves g = record {
   text = textOf r c o;

@@ -11,7 +11,7 @@ use Rattle.table.specs.Sizes.{maxLimit}
 use Rattle.table.specs.declared.Task.{Task}
 use Rattle.runcheck.specs.declared.Checked.{Checked}
 use Rattle.table.specs.Outcomes.{Outcome}
-use Rattle.taskfile.specs.declared.TaskRead.{TaskRead}
+use Rattle.table.specs.declared.TaskReply.{TaskReply}
 use Rattle.listing.specs.Text.{lineMost, longestText, each, line, taskWord, openWord, setWord, dropDeleteWord, addEffectWord, dropNeedWord, endWord, refusedWord, taskLine, openLine, setLine, repairLine, endLine, refusedLine, firstLines, answerLines, readText, textOf}
 use Rattle.listing.proofs.EachLaws.{each-most}
 use Rattle.listing.proofs.LineLaws.{line-most}
@@ -50,7 +50,7 @@ answer-most list h =
       line-most endWord [],
     )
 
-pub text-most : (r : TaskRead) (c : Checked) (o : Outcome) → length (take (o .reply .length) (o .room)) ≤ maxLimit
+pub text-most : (r : TaskReply) (c : Checked) (o : Outcome) → length (take (o .reply .length) (o .room)) ≤ maxLimit
     → length (textOf r c o) ≤ longestText
 unfolding textOf readText
 text-most r c o h = pick (eqb (r .number) accepted) (eqb (o .reply .number) accepted)

@@ -8,7 +8,7 @@ use Rattle.runcheck.specs.OpenNeeds.{checked}
 use Rattle.solve.specs.Solving.{Solves}
 use Rattle.table.specs.Outcomes.{Outcome, given}
 use Rattle.taskfile.specs.Reading.{ReadsFile}
-use Rattle.taskfile.specs.declared.TaskRead.{TaskRead}
+use Rattle.table.specs.declared.TaskReply.{TaskReply}
 use Rattle.listing.specs.Text.{textOf}
 
 -- Room for the longest answer there can be.
@@ -17,7 +17,7 @@ answerRoom = replicate maxLimit 0
 
 -- The text is that of what reading the input, checking its run and solving it give.
 pub record Lists (input text : List ℕ) : Type 0 where
-  pub read : TaskRead
+  pub read : TaskReply
   pub reads : ReadsFile input read
   pub solved : Outcome
   pub solves : Solves (read .task) answerRoom solved

@@ -10,7 +10,7 @@ use Rattle.table.specs.Sizes.{maxLimit}
 use Rattle.table.specs.declared.Task.{Task}
 use Rattle.runcheck.specs.declared.Checked.{Checked}
 use Rattle.table.specs.Outcomes.{Outcome}
-use Rattle.taskfile.specs.declared.TaskRead.{TaskRead}
+use Rattle.table.specs.declared.TaskReply.{TaskReply}
 use Rattle.listing.specs.Ascii.{bytesOf}
 
 -- The bytes of ASCII that a listing has beside its words: line feed, space and the digits from 0.
@@ -112,7 +112,7 @@ readText t c o =
     (firstLines t c ++ refusedLine (o .reply .number) (o .reply .place))
 
 -- "A refused file prints only `refused NUMBER PLACE`."
-unfoldable pub textOf : TaskRead → Checked → Outcome → List ℕ
+unfoldable pub textOf : TaskReply → Checked → Outcome → List ℕ
 textOf r c o = cond {A = List ℕ} (eqb (r .number) accepted) (readText (r .task) c o) (refusedLine (r .number) (r .place))
 
 -- The longest a listing can be: each word with its fields of at most a space and twenty digits, and the line feed.

@@ -6,9 +6,9 @@ use lines::whole;
 use runcheck::Checked;
 use table::LIMIT;
 use table::Reply;
+use table::TaskReply;
 use table::refusals::ACCEPTED;
 use table::refusals::ROOM_TOO_SHORT;
-use taskfile::TaskRead;
 ghost use mathlib.Core.Path.{_≡_};
 ghost use Prim.Native.Nat.{_≤_};
 ghost use lib.ListN.{length};
@@ -28,7 +28,7 @@ pub fn longest() -> usize
 }
 
 // How long the text is: written where there is next to no room, it is only counted.
-fn length_of(read: TaskRead, found: Checked, solved: Reply, list: &[u16]) -> usize
+fn length_of(read: TaskReply, found: Checked, solved: Reply, list: &[u16]) -> usize
     requires { ⌜ solved .length ≤ length (now list) ⌝ }
     requires { ⌜ length (now list) ≤ maxLimit ⌝ }
     ensures { λ r. ⌜ r ≡ length (textOf read found (record { reply = solved; room = now (list .entry) })) ⌝ }
@@ -38,7 +38,7 @@ fn length_of(read: TaskRead, found: Checked, solved: Reply, list: &[u16]) -> usi
 }
 
 // The text into the lent room, from its first place on and nothing beside; or 11, and nothing written.
-fn tell(read: TaskRead, found: Checked, solved: Reply, list: &[u16], room: &mut [u8]) -> Reply
+fn tell(read: TaskReply, found: Checked, solved: Reply, list: &[u16], room: &mut [u8]) -> Reply
     requires { ⌜ solved .length ≤ length (now list) ⌝ }
     requires { ⌜ length (now list) ≤ maxLimit ⌝ }
     ensures { λ r.

@@ -4,9 +4,9 @@ use room::put_word;
 use runcheck::Checked;
 use table::Reply;
 use table::Task;
+use table::TaskReply;
 use table::refusals::ACCEPTED;
 use table::repair::Repair;
-use taskfile::TaskRead;
 ghost use Prim.Native.Nat.{_+_, _≤_};
 ghost use lib.ListN.{length};
 ghost use Rattle.table.specs.Sizes.{maxLimit};
@@ -71,7 +71,7 @@ fn answer_lines(room: &mut [u8], at: usize, list: &[u16]) -> usize
 
 // The whole text, whether the room goes so far or not.
 pub(crate) fn whole(
-    read: TaskRead,
+    read: TaskReply,
     found: Checked,
     solved: Reply,
     list: &[u16],

@@ -1,35 +1,51 @@
--- What demand 1 needs of the calls' contracts: each bad input's refusal, and that a refusal leaves what was lent as it was. Assumes nothing.
+-- What demand 1 needs of the calls' contracts: each bad input's refusal, that every number is one of document 01's (so that 255, the
+-- boundary's own, is none), and that a refusal leaves what was lent as it was. Assumes nothing.
 use mathlib.Core.Bool.{Bool, true, false, cond, not}
 use mathlib.Core.List.{List}
-use mathlib.Core.Path.{_≡_, refl, ap, _∙_, subst}
-use Prim.Native.Nat.{ℕ, _<_, _≤_}
+use mathlib.Core.Path.{_≡_, refl, sym, ap, subst}
+use Prim.Native.Nat.{ℕ, _+_, _<_, _≤_}
 use native.Mathlib.Omega.{arith}
+use lib.Dec.{eqb}
 use lib.ListN.{length}
 use Rattle.change.proofs.ApplyLaws.{applies-wrong, applies-unique}
 use Rattle.change.proofs.PermittedLaws.{firstWrong-le, permitted-list}
-use Rattle.change.specs.Applying.{firstWrong, Applies}
-use Rattle.change.specs.declared.Applied.{Applied}
+use Rattle.change.specs.Applying.{firstWrong, applyRefusal, Applies}
+use Rattle.change.specs.declared.Edit.{Edit}
 use Rattle.listing.specs.Listing.{ListsInto}
-use Rattle.runcheck.specs.OpenNeeds.{refusedCheck, checked}
-use Rattle.session.specs.Calls.{listed}
+use Rattle.runcheck.specs.OpenNeeds.{statesOf, totalOpen, firstOpen, lowestOpen, openNeeds, refusedCheck, openReport, checked}
+use Rattle.runcheck.specs.declared.Checked.{Checked}
+use Rattle.search.specs.Rows.{verdictIn}
+use Rattle.session.proofs.CallLaws.{opens-refused, edits-refused, opens-unique, edits-unique}
+use Rattle.session.specs.Calls.{openRefusal, Opens, editRefusal, Edits, listed}
 use Rattle.session.specs.Sessions.{inForm}
 use Rattle.solve.specs.Solving.{told, Solves}
-use Rattle.table.specs.Outcomes.{Outcome, refused, given}
 use Rattle.solve.specs.Tables.{rowAt}
-use Rattle.search.specs.Rows.{verdictIn}
 use Rattle.table.proofs.FlagLaws.{by-order}
-use Rattle.table.proofs.OutcomeLaws.{given-keeps}
+use Rattle.table.proofs.OutcomeLaws.{given-cases}
+use Rattle.table.proofs.RefusalLaws.{Bounded, firstOf-bounded}
 use Rattle.table.specs.Answer.{Verdict, found, over, hopeless, Permitted}
 use Rattle.table.specs.Join.{joinVerdicts}
-use Rattle.table.proofs.RefusalLaws.{Bounded, firstOf-bounded}
+use Rattle.table.specs.Outcomes.{Outcome, refusal, refused, given}
 use Rattle.table.specs.Refusals.{accepted, bytesAfterEnd, notWellFormed, notASession, listNotPermitted}
-use Rattle.table.specs.Tasks.{cellsOf, formed, WellFormed}
+use Rattle.table.specs.Tasks.{cellsOf, courseOf, formed, WellFormed}
+use Rattle.table.specs.declared.Reply.{Reply}
 use Rattle.table.specs.declared.Task.{Task}
-use Rattle.taskfile.proofs.Files.{accepted-exactly, accepted-read}
+use Rattle.table.specs.declared.TaskReply.{TaskReply}
+use Rattle.taskfile.proofs.FilesAreTasks.{accepted-exactly, accepted-read}
 use Rattle.taskfile.specs.Format.{fileOf}
 use Rattle.taskfile.specs.Reading.{Seen, noTask, faultsAt, Reads, ReadsFile, faulty, good, ended, trailing}
-use Rattle.taskfile.specs.declared.TaskRead.{TaskRead}
+use Rattle.taskfile.specs.Records.{recordFault, recordAt, wholeRecord, refusedRecord}
+use Rattle.taskfile.specs.declared.record.Record.{Record}
 use Rattle.taskwriter.specs.Writing.{written}
+
+-- A number of document 01's table.
+abbrev pub Listed : ℕ → Type 0
+Listed n = n ≤ 15
+
+-- Of two results one is given, and either is right.
+either : {A : Type 0} (Right : A → Type 0) (b : Bool) (x y : A) → Right x → Right y → Right (cond {A = A} b x y)
+either Right true x y h k = h
+either Right false x y h k = k
 
 -- ---- files
 
@@ -39,45 +55,44 @@ faults-bounded s at seen =
     (omega arith, (omega arith, (omega arith, (omega arith, (omega arith, (omega arith, (omega arith, (omega arith, tt))))))))
 
 -- What a refused read gives.
-pub record BadFile (r : TaskRead) : Type 0 where
+pub record BadFile (r : TaskReply) : Type 0 where
   pub numbered : (0 < r .number) × (r .number ≤ bytesAfterEnd)
   pub zeros : r .task ≡ noTask
 
-pub bad-from : {s : List ℕ} {r : TaskRead} {at : ℕ} {seen : Seen} → Reads s r at seen → (r .number ≡ accepted → ⊥) → BadFile r
+bad-from : {s : List ℕ} {r : TaskReply} {at : ℕ} {seen : Seen} → Reads s r at seen → (r .number ≡ accepted → ⊥) → BadFile r
 bad-from {s} (faulty {at} {seen} f e) nonzero = record {
   numbered = (
-    omega (arith, ap (λ (q : TaskRead). q .number) e),
-    omega (arith, ap (λ (q : TaskRead). q .number) e, firstOf-bounded bytesAfterEnd (faultsAt s at seen) (faults-bounded s at seen)),
+    omega (arith, ap (λ (q : TaskReply). q .number) e),
+    omega (arith, ap (λ (q : TaskReply). q .number) e, firstOf-bounded bytesAfterEnd (faultsAt s at seen) (faults-bounded s at seen)),
   );
-  zeros = ap (λ (q : TaskRead). q .task) e;
+  zeros = ap (λ (q : TaskReply). q .task) e;
 }
 bad-from (good c more rest) nonzero = bad-from rest nonzero
-bad-from (ended c is last e) nonzero = absurd (nonzero (ap (λ (q : TaskRead). q .number) e))
+bad-from (ended c is last e) nonzero = absurd (nonzero (ap (λ (q : TaskReply). q .number) e))
 bad-from (trailing c is more e) nonzero = record {
-  numbered = (omega (arith, ap (λ (q : TaskRead). q .number) e), omega (arith, ap (λ (q : TaskRead). q .number) e));
-  zeros = ap (λ (q : TaskRead). q .task) e;
+  numbered = (omega (arith, ap (λ (q : TaskReply). q .number) e), omega (arith, ap (λ (q : TaskReply). q .number) e));
+  zeros = ap (λ (q : TaskReply). q .task) e;
 }
 
 -- Bytes that are no well-formed task's file get a number from 1 to 8 and a task of zeros.
-pub bad-file : (s : List ℕ) (r : TaskRead) → ReadsFile s r → ((t : Task) → WellFormed t → s ≡ fileOf t → ⊥) → BadFile r
+pub bad-file : (s : List ℕ) (r : TaskReply) → ReadsFile s r → ((t : Task) → WellFormed t → s ≡ fileOf t → ⊥) → BadFile r
 bad-file s r reads none =
     bad-from reads (λ ok.
     let p = accepted-exactly s (r .task) .0 (subst (ReadsFile s) (accepted-read reads ok) reads) in
     none (r .task) (p .0) (p .1))
 
--- ---- writing
+pub read-number : (s : List ℕ) (r : TaskReply) → ReadsFile s r → Listed (r .number)
+read-number s r reads = by-order (r .number) 1 (λ h. omega arith) (λ h. omega (arith, bad-from reads (λ e. omega arith) .numbered))
 
-pub write-keeps : (t : Task) (room : List ℕ) (o : Outcome) → o ≡ written t room → (o .reply .number ≡ accepted → ⊥) → o .room ≡ room
-unfolding written
-write-keeps t room o e nonzero =
-    ap (λ (x : Outcome). x .room) e ∙ pick (formed t) (λ k. nonzero (ap (λ (x : Outcome). x .reply .number) e ∙ k))
-  where
-    either : Bool → Outcome
-    either b = cond {A = Outcome} b (given (fileOf t) room) (refused notWellFormed room)
+fault-number : (s : List ℕ) (at : ℕ) → Listed (recordFault s at .number)
+unfolding recordFault
+fault-number s at = firstOf-bounded 15 _ (omega arith, (omega arith, (omega arith, tt)))
 
-    pick : (b : Bool) → (either b .reply .number ≡ accepted → ⊥) → either b .room ≡ room
-    pick true h = given-keeps (fileOf t) room h
-    pick false h = refl
+pub record-number : (s : List ℕ) (at : ℕ) → Listed (recordAt s at .number)
+unfolding recordAt
+record-number s at =
+    either (λ (r : Record). Listed (r .number)) (eqb (recordFault s at .number) accepted) (wholeRecord s at)
+    (refusedRecord (recordFault s at .number) (recordFault s at .place)) (omega arith) (fault-number s at)
 
 -- ---- the run check
 
@@ -85,52 +100,90 @@ pub check-malformed : (t : Task) → formed t ≡ false → checked t ≡ refuse
 unfolding checked
 check-malformed t e = rw e
 
--- ---- applying a list
+pub check-number : (t : Task) → Listed (checked t .number)
+unfolding checked openReport
+check-number t =
+    let c = cellsOf (t .table) in
+    let r = courseOf (t .run) in
+    let s = statesOf t in
+    either (λ (k : Checked). Listed (k .number)) (formed t) (openReport c r s) (refusedCheck notWellFormed)
+    (either (λ (k : Checked). Listed (k .number)) (eqb (totalOpen c r s) 0) (openNeeds 0 0 0)
+    (openNeeds (totalOpen c r s) (firstOpen c r s + 1) (lowestOpen c r s)) (omega arith) (omega arith))
+    (omega arith)
+
+-- ---- calls whose refusals are checks in order: applying a list, opening, an edit
+
+pub apply-number : (t : Task) (l : List ℕ) (r : TaskReply) → Applies t l r → Listed (r .number)
+unfolding applyRefusal
+apply-number t l r a = subst Listed (sym (a .number)) (firstOf-bounded 15 _ (omega arith, (omega arith, tt)))
+
+pub open-number : (t : Task) (s : List ℕ) (r : Reply) (after : List ℕ) → Opens t s r after → Listed (r .number)
+unfolding openRefusal
+open-number t s r after a = subst Listed (sym (a .number)) (firstOf-bounded 15 _ (omega arith, (omega arith, tt)))
+
+pub edit-number : (t : Task) (s : List ℕ) (e : Edit) (r : TaskReply) (after : List ℕ) → Edits t s e r after → Listed (r .number)
+unfolding editRefusal
+edit-number t s e r after a = subst Listed (sym (a .number)) (firstOf-bounded 15 _ (omega arith, (omega arith, (omega arith, tt))))
 
 -- A list that is not permitted is refused at its first wrong number.
-pub bad-list : (t : Task) → WellFormed t → formed t ≡ true → (l : List ℕ) → (Permitted (cellsOf (t .table)) l → ⊥) → (r : Applied) → Applies t l r
+pub bad-list : (t : Task) → WellFormed t → formed t ≡ true → (l : List ℕ) → (Permitted (cellsOf (t .table)) l → ⊥) → (r : TaskReply) → Applies t l r
     → r ≡ record { number = listNotPermitted; place = firstWrong (cellsOf (t .table)) l; task = t }
 bad-list t w e l bad r a =
     by-order (firstWrong (cellsOf (t .table)) l) (length l) (λ h. applies-unique t l r _ a (applies-wrong t l _ refl e h))
     (λ h. absurd (bad (permitted-list (cellsOf (t .table)) l (omega (arith, firstWrong-le (cellsOf (t .table)) l)))))
 
--- ---- a verdict told into room
+-- Where the refusal of opening, or of an edit, is n at place 0, that is what is given.
+module _ (t : Task) (s : List ℕ) where
+  pub open-refused : (n : ℕ) → 0 < n → openRefusal t s ≡ record { number = n; place = 0 } → {after : List ℕ} (r : Reply) → Opens t s r after
+      → (r ≡ refusal n) × (after ≡ s)
+  open-refused n h e {after} r a = opens-unique t s r (refusal n) after s a (opens-refused t s n h e)
 
-told-keeps : (v : Verdict) (room : List ℕ) → (told v room .reply .number ≡ accepted → ⊥) → told v room .room ≡ room
+  pub edit-refused : (e : Edit) (n : ℕ) → 0 < n → editRefusal t s e ≡ record { number = n; place = 0 } → {after : List ℕ} (r : TaskReply)
+      → Edits t s e r after → (r ≡ record { number = n; place = 0; task = t }) × (after ≡ s)
+  edit-refused e n h is {after} r a = edits-unique t s e r _ after s a (edits-refused t s e n h is)
+
+-- ---- calls that give into lent room
+
+-- The number is listed, and where it is a refusal's the room is as it was.
+pub record Fair (room : List ℕ) (o : Outcome) : Type 0 where
+  pub listed : Listed (o .reply .number)
+  pub keeps : (o .reply .number ≡ accepted → ⊥) → o .room ≡ room
+
+refused-fair : (n : ℕ) (room : List ℕ) → Listed n → Fair room (refused n room)
+refused-fair n room h = record { listed = h; keeps = λ nonzero. refl }
+
+given-fair : (l room : List ℕ) → Fair room (given l room)
+given-fair l room =
+    given-cases l room (Fair room) (λ h. refused-fair 11 room (omega arith))
+    (λ h. record { listed = omega arith; keeps = λ nonzero. absurd (nonzero refl) })
+
+told-fair : (v : Verdict) (room : List ℕ) → Fair room (told v room)
 unfolding told
-told-keeps (found l) room = given-keeps l room
-told-keeps over room = λ nonzero. refl
-told-keeps hopeless room = λ nonzero. refl
+told-fair (found l) room = given-fair l room
+told-fair over room = refused-fair 10 room (omega arith)
+told-fair hopeless room = refused-fair 9 room (omega arith)
 
-pub solve-keeps : (t : Task) (room : List ℕ) (o : Outcome) → Solves t room o → (o .reply .number ≡ accepted → ⊥) → o .room ≡ room
-solve-keeps t room o s nonzero = pick (formed t) refl
+pub write-fair : (t : Task) (room : List ℕ) (o : Outcome) → o ≡ written t room → Fair room o
+unfolding written
+write-fair t room o e =
+    subst (Fair room) (sym e)
+    (either (Fair room) (formed t) (given (fileOf t) room) (refused notWellFormed room) (given-fair (fileOf t) room) (refused-fair 12 room (omega arith)))
+
+pub solve-fair : (t : Task) (room : List ℕ) (o : Outcome) → Solves t room o → Fair room o
+solve-fair t room o s = pick (formed t) refl
   where
-    pick : (b : Bool) → formed t ≡ b → o .room ≡ room
-    pick false e = ap (λ (x : Outcome). x .room) (s .malformed e)
-    pick true e =
-        let x = s .verdict e in
-        ap (λ (u : Outcome). u .room) (x .2) ∙ told-keeps (x .0) room (λ k. nonzero (ap (λ (u : Outcome). u .reply .number) (x .2) ∙ k))
+    pick : (b : Bool) → formed t ≡ b → Fair room o
+    pick true e = let x = s .verdict e in subst (Fair room) (sym (x .2)) (told-fair (x .0) room)
+    pick false e = subst (Fair room) (sym (s .malformed e)) (refused-fair 12 room (omega arith))
 
-pub list-keeps : (t : Task) (s room : List ℕ) (o : Outcome) → o ≡ listed t s room → (o .reply .number ≡ accepted → ⊥) → o .room ≡ room
+pub list-fair : (t : Task) (s room : List ℕ) (o : Outcome) → o ≡ listed t s room → Fair room o
 unfolding listed
-list-keeps t s room o e nonzero =
-    ap (λ (x : Outcome). x .room) e ∙ pick (not (formed t)) (not (inForm t s)) (λ k. nonzero (ap (λ (x : Outcome). x .reply .number) e ∙ k))
-  where
-    joined : Verdict
-    joined = joinVerdicts (λ f. verdictIn (rowAt s f)) (t .table .facts) (t .table .limit)
+list-fair t s room o e =
+    let v = joinVerdicts (λ f. verdictIn (rowAt s f)) (t .table .facts) (t .table .limit) in
+    let rest = cond {A = Outcome} (not (inForm t s)) (refused notASession room) (told v room) in
+    subst (Fair room) (sym e)
+    (either (Fair room) (not (formed t)) (refused notWellFormed room) rest (refused-fair 12 room (omega arith))
+    (either (Fair room) (not (inForm t s)) (refused notASession room) (told v room) (refused-fair 13 room (omega arith)) (told-fair v room)))
 
-    either : Bool → Bool → Outcome
-    either a b =
-        cond {A = Outcome} a (refused notWellFormed room) (cond {A = Outcome} b (refused notASession room) (told joined room))
-
-    pick : (a b : Bool) → (either a b .reply .number ≡ accepted → ⊥) → either a b .room ≡ room
-    pick true b h = refl
-    pick false true h = refl
-    pick false false h = told-keeps joined room h
-
--- ---- the listing
-
-pub listing-keeps : (input room : List ℕ) (o : Outcome) → ListsInto input room o → (o .reply .number ≡ accepted → ⊥) → o .room ≡ room
-listing-keeps input room o a nonzero =
-    ap (λ (x : Outcome). x .room) (a .outcome) ∙
-    given-keeps (a .text) room (λ k. nonzero (ap (λ (x : Outcome). x .reply .number) (a .outcome) ∙ k))
+pub listing-fair : (input room : List ℕ) (o : Outcome) → ListsInto input room o → Fair room o
+listing-fair input room o a = subst (Fair room) (sym (a .outcome)) (given-fair (a .text) room)

@@ -9,7 +9,7 @@ use lib.Dec.{ltb}
 use lib.ListN.{length}
 use borrow.Author.Tests.{ltb-true}
 use Rattle.change.proofs.EditLaws.{edited-exactly, edited-only}
-use Rattle.change.specs.Editing.{edited, cellSet, cellInside}
+use Rattle.change.specs.Editing.{edited, setCell, cellInside}
 use Rattle.change.specs.declared.Edit.{Edit}
 use Rattle.facts.specs.Sets.{has, within, joined, removed, only}
 use Rattle.listing.proofs.Determined.{listing-unique}
@@ -19,7 +19,7 @@ use Rattle.listing.specs.Text.{textOf, readText, line, each, digits}
 use Rattle.runcheck.specs.OpenNeeds.{openNeeds, checked, openReport, totalOpen, firstOpen, lowestOpen, openAt, isOpen}
 use Rattle.runcheck.specs.declared.Checked.{Checked}
 use Rattle.session.proofs.CallLaws.{edit-clear}
-use Rattle.session.proofs.Demand3.{story-ends, ends-solved}
+use Rattle.session.proofs.StoryLaws.{story-ends, ends-solved}
 use Rattle.session.specs.Calls.{listed, told-all, then, names}
 use Rattle.solve.proofs.SolveLaws.{solves-malformed}
 use Rattle.solve.specs.Solving.{told, Solves}
@@ -30,7 +30,7 @@ use Rattle.table.specs.Deciding.{isRight, isShaped}
 use Rattle.table.specs.Answer.{Verdict, found, over, hopeless}
 use Rattle.table.specs.Bench.{listingTask, limited, strayTask, goalsAtStart, goalOutOfReach, addsAndDeletes, deletesTheGoal, needsLastFact, pairSteps, pairs}
 use Rattle.table.specs.Counting.{sumBelow, countBelow, firstWhere, everyBelow, someBelow}
-use Rattle.table.specs.Join.{isHopeless, isOver, foundList, joinVerdicts}
+use Rattle.table.specs.Join.{isHopeless, isOver, foundList, joinRows, readAgainst, joinVerdicts}
 use Rattle.table.specs.Lists.{gather}
 use Rattle.table.specs.Order.{isIn}
 use Rattle.table.specs.Refusals.{firstOf}
@@ -42,37 +42,37 @@ use Rattle.table.specs.declared.Task.{Task}
 use Rattle.taskfile.proofs.Function.{reads-total}
 use Rattle.taskfile.proofs.Unique.{reads-unique}
 use Rattle.taskfile.specs.Computed.{readFrom, readFile}
-use Rattle.taskfile.specs.Format.{isKind, isCellKind, isFactKind, bodyLength}
-use Rattle.taskfile.specs.Reading.{ReadsFile, refusedRead, acceptedRead, noTask, bodyAt, misplaced, sizesWrong, outside, disordered, faultsAt, tableAfter, runAfter, seenAfter}
-use Rattle.taskfile.specs.declared.TaskRead.{TaskRead}
+use Rattle.taskfile.specs.Format.{isKind, fileOrder, firstPlace, positionOf, isCellKind, isFactKind, bodyLength}
+use Rattle.taskfile.specs.Reading.{ReadsFile, refusedRead, acceptedRead, noTask, bodyAt, misplaced, sizesWrong, outside, disordered, placeOf, faultsAt, tableAfter, runAfter, seenAfter}
+use Rattle.table.specs.declared.TaskReply.{TaskReply}
 use Rattle.promises.proofs.CertificateLaws.{certified-well, certified-only}
 use Rattle.promises.specs.Determined.{Only}
 use Rattle.promises.specs.Certificates.{isRightWith, mends, certifies, certified, ofFact, partsOf}
-use Rattle.promises.specs.Sheet.{reads, lists, checks, solves, refuses, works-later, edits, Holds, AllHold, all, _and_, deleteAbsent, untouched, listingText, refusedText, sheet, stepsOf, refusalFiles, figures}
+use Rattle.promises.specs.Sheet.{reads, lists, checks, solves, refuses, works-later, edits, Stands, AllHold, all, _and_, deleteAbsent, untouched, listingText, refusedText, sheet, stepsOf, refusalFiles, figures}
 
 -- ---- what is enough for a row of each kind
 
 -- What reading computes is what its contract says, and the contract says it of one result.
-read-row : (s : List ℕ) (n : ℕ) (r : TaskRead) → length s ≡ n → readFile s ≡ r → Holds (reads s n r)
+read-row : (s : List ℕ) (n : ℕ) (r : TaskReply) → length s ≡ n → readFile s ≡ r → Stands (reads s n r)
 read-row s n r e computed = let a = subst (ReadsFile s) computed (reads-total s) in (e, record { allowed = a; others = λ q b. reads-unique b a })
 
-check-row : (t : Task) (c : Checked) → checked t ≡ c → Holds (checks t c)
+check-row : (t : Task) (c : Checked) → checked t ≡ c → Stands (checks t c)
 check-row t c e = record { allowed = sym e; others = λ q a. a ∙ e }
 
 -- By the verdicts of its single facts, the parts of a list or hopeless each, whose join is the task's.
 solve-row : (t : Task) (l : List ℕ) → certified t (partsOf (found l)) ≡ true
-    → joinVerdicts (partsOf (found l)) (t .table .facts) (t .table .limit) ≡ found l → Holds (solves t l)
+    → joinVerdicts (partsOf (found l)) (t .table .facts) (t .table .limit) ≡ found l → Stands (solves t l)
 unfolding told
 solve-row t l sound joins = certified-only t (partsOf (found l)) sound (found l) joins
 
 -- Refused as over the limit, or as hopeless.
 refuse-row : (t : Task) (v : Verdict) (parts : ℕ → Verdict) (n : ℕ) → certified t parts ≡ true → joinVerdicts parts (t .table .facts) (t .table .limit) ≡ v
-    → ((room : List ℕ) → told v room ≡ refused n room) → Holds (refuses t n)
+    → ((room : List ℕ) → told v room ≡ refused n room) → Stands (refuses t n)
 refuse-row t v parts n sound joins tells room = subst (Only (Solves t room)) (tells room) (certified-only t parts sound v joins room)
 
 -- By what reading the file, checking its run and solving it give.
-list-row : (file : List ℕ) (text : String) (r : TaskRead) (c : Checked) (o : Outcome) → readFile file ≡ r → checked (r .task) ≡ c
-    → Solves (r .task) answerRoom o → bytesOf text ≡ textOf r c o → Holds (lists file text)
+list-row : (file : List ℕ) (text : String) (r : TaskReply) (c : Checked) (o : Outcome) → readFile file ≡ r → checked (r .task) ≡ c
+    → Solves (r .task) answerRoom o → bytesOf text ≡ textOf r c o → Stands (lists file text)
 list-row file text r c o computed check solve e room =
     let done : ListsInto file room (given (bytesOf text) room) = record {
       text = bytesOf text;
@@ -89,7 +89,7 @@ list-row file text r c o computed check solve e room =
 
 -- By demand 3: a listing after the edit tells what a fresh solve of the edited task tells.
 edit-row : (t : Task) (e : Edit) (l : List ℕ) (kept : ℕ) → WellFormed t → cellInside t (e .cell) ≡ true
-    → names t (e ∷ []) kept ≡ false → ltb kept maxFacts ≡ true → Holds (solves (edited t e) l) → Holds (edits t e l kept)
+    → names t (e ∷ []) kept ≡ false → ltb kept maxFacts ≡ true → Stands (solves (edited t e) l) → Stands (edits t e l kept)
 edit-row t e l kept w inside unnamed low fresh s₀ s after r₀ r opening accepts editing =
     let stored = opening .opened accepts .1 in
     let done = story-ends t s (e ∷ []) (r .task) after w stored (then editing told-all) in
@@ -126,12 +126,12 @@ unfolding textOf readText line each digits
 refused-text c o = refl
 
 -- 7: "32 works too, and comes later"
-later-row : Holds (works-later deletesTheGoal (32 ∷ []) (0 ∷ []))
+later-row : Stands (works-later deletesTheGoal (32 ∷ []) (0 ∷ []))
 later-row = (worked .row-7 .1, worked .row-7 .2)
 
 -- All lists under one, so that what is computed is named once.
 computed : AllHold sheet × AllHold refusalFiles × AllHold figures
-unfolding readFile readFrom faultsAt firstOf isKind isCellKind isFactKind bodyLength bodyAt misplaced sizesWrong outside disordered tableAfter runAfter seenAfter checked openReport totalOpen firstOpen lowestOpen openAt isOpen sumBelow countBelow firstWhere pairSteps stepsOf certified certifies mends isRightWith isRight isShaped ofFact formed sizesFormed actionFormed maskFormed stepFormed everyBelow cellsOf courseOf stateAt permitted permits chosen isIn has within joined removed only cellSet joinVerdicts gather someBelow isHopeless isOver foundList cellInside names
+unfolding readFile readFrom faultsAt placeOf firstOf isKind fileOrder firstPlace positionOf isCellKind isFactKind bodyLength bodyAt misplaced sizesWrong outside disordered tableAfter runAfter seenAfter checked openReport totalOpen firstOpen lowestOpen openAt isOpen sumBelow countBelow firstWhere pairSteps stepsOf certified certifies mends isRightWith isRight isShaped ofFact formed sizesFormed actionFormed maskFormed stepFormed everyBelow cellsOf courseOf stateAt permitted permits chosen isIn has within joined removed only setCell gather someBelow isHopeless isOver foundList cellInside names joinRows readAgainst
 computed = (
   read-row _ _ _ refl refl and
       read-row _ _ _ refl refl and

@@ -21,20 +21,17 @@ use Rattle.boundary.proofs.zp_read.Reads as zp-read
 use Rattle.boundary.proofs.zp_record.Reads as zp-record
 use Rattle.boundary.proofs.zp_solve.Reads as zp-solve
 use Rattle.boundary.proofs.zp_write.Reads as zp-write
-use Rattle.boundary.specs.Answers.{Answers, changedLength, replyLength, changedWords, replyWords, checkedWords, taskAnswer}
-use Rattle.boundary.specs.Calls.{AnswersOutcome, HandsRecord, ReadsTask, WritesTask, ChecksRun, AppliesList, SolvesTask, OpensSession, EditsSession, ListsSession, ListsInput}
+use Rattle.boundary.specs.Answers.{Answers, changedLength, changedWords, checkedWords, taskAnswer}
+use Rattle.boundary.specs.BoundaryCalls.{AnswersReply, HandsRecord, ReadsTask, WritesTask, ChecksRun, AppliesList, SolvesTask, OpensSession, EditsSession, ListsSession, ListsInput}
 use Rattle.boundary.specs.Words.{taskIn, lentBack}
 use Rattle.change.proofs.ApplyLaws.{applies-unformed, applies-unique}
-use Rattle.change.specs.Applying.{firstWrong, Applies}
+use Rattle.change.specs.Applying.{firstWrong}
 use Rattle.change.specs.Editing.{cellInside}
-use Rattle.change.specs.declared.Applied.{Applied}
-use Rattle.listing.specs.Listing.{ListsInto}
-use Rattle.session.proofs.CallLaws.{open-malformed, open-not-a-session, edit-malformed, edit-not-a-session, edit-outside, opens-refused, edits-refused, opens-unique, edits-unique, listed-malformed, listed-not-a-session}
-use Rattle.session.specs.Calls.{openRefusal, Opens, editRefusal, Edits, listed}
+use Rattle.table.specs.declared.TaskReply.{TaskReply}
+use Rattle.session.proofs.CallLaws.{open-malformed, open-not-a-session, edit-malformed, edit-not-a-session, edit-outside, listed-malformed, listed-not-a-session}
+use Rattle.session.specs.Calls.{editRefusal}
 use Rattle.session.specs.EditNumbers.{editOf}
 use Rattle.session.specs.Sessions.{inForm}
-use Rattle.session.specs.declared.Edited.{Edited}
-use Rattle.solve.specs.Solving.{Solves}
 use Rattle.table.proofs.FlagLaws.{by-order}
 use Rattle.table.proofs.Formation.{well-formed}
 use Rattle.table.specs.Answer.{Permitted}
@@ -44,13 +41,10 @@ use Rattle.table.specs.Tasks.{cellsOf, formed, WellFormed}
 use Rattle.table.specs.declared.Reply.{Reply}
 use Rattle.table.specs.declared.Task.{Task}
 use Rattle.taskfile.specs.Format.{fileOf}
-use Rattle.taskfile.specs.Reading.{noTask, ReadsFile}
-use Rattle.taskfile.specs.declared.TaskRead.{TaskRead}
+use Rattle.taskfile.specs.Reading.{noTask}
 use Rattle.taskwriter.proofs.WritingLaws.{written-unformed}
-use Rattle.taskwriter.specs.Writing.{written}
 use Rattle.promises.proofs.Demands.{Refused}
-use Rattle.promises.proofs.NumberLaws.{Listed, record-number, read-number, check-number, write-number, solve-number, list-number, listing-number, apply-number, open-number, edit-number}
-use Rattle.promises.proofs.BadInputLaws.{bad-file, write-keeps, check-malformed, bad-list, solve-keeps, list-keeps, listing-keeps}
+use Rattle.promises.proofs.BadInputLaws.{Listed, bad-file, read-number, record-number, check-malformed, check-number, apply-number, open-number, edit-number, bad-list, open-refused, edit-refused, write-fair, solve-fair, list-fair, listing-fair}
 
 -- ---- the words
 
@@ -161,11 +155,11 @@ pub record BoundaryDemand : Type 0 where
   pub list-changes-nothing : (ws table room answer : List ℕ) (o : Lending) → ZpListGives ws table room answer o → Refused (o .0) → o .2 ≡ room
   pub listing-changes-nothing : (input room answer : List ℕ) (o : Lending) → ZpListingGives input room answer o → Refused (o .0) → o .2 ≡ room
 
--- ---- the answer's room
+-- ---- a call of the boundary
 
 -- The call was made with a number of 01's, and so not with 255.
-room-of : {n : ℕ} {Untouched : Type 0} {Told : List ℕ → Type 0} {answer after : List ℕ} {r : ℕ} → Answers n Untouched Told answer after r
-    → ((words : List ℕ) → Told words → Listed (getD words 0 0)) → AnswerRoom n answer r after
+room-of : {n : ℕ} {Untouched : Type 0} {Due : List ℕ → Type 0} {answer after : List ℕ} {r : ℕ} → Answers n Untouched Due answer after r
+    → ((words : List ℕ) → Due words → Listed (getD words 0 0)) → AnswerRoom n answer r after
 room-of {n} {answer = answer} a number = record {
   short = λ h. (a .short h .0, a .short h .1);
   only-short = λ e.
@@ -178,166 +172,108 @@ room-of {n} {answer = answer} a number = record {
       (x .0, x .1, x .3, x .4);
 }
 
--- The first of the words is the number of the result that they are told of.
-listed-of : {Y : Type 0} (Inner : Y → Type 0) (out : Y → List ℕ) → ((y : Y) → Inner y → Listed (getD (out y) 0 0)) → (words : List ℕ)
-    → (y : Y) × Inner y × (words ≡ out y) → Listed (getD words 0 0)
-listed-of Inner out number words t = omega (arith, ap (λ w. getD w 0 0) (t .2), number (t .0) (t .1))
+-- A call whose answer is that of an inner result y.
+module _ {Y Untouched : Type 0} {n : ℕ} {Inner : Y → Type 0} {out : Y → List ℕ} {answer after : List ℕ} {r : ℕ}
+    (a : Answers n Untouched (λ words. (y : Y) × Inner y × (words ≡ out y)) answer after r) where
+  -- The first of the words is the number of the result.
+  told-room : ((y : Y) → Inner y → Listed (getD (out y) 0 0)) → AnswerRoom n answer r after
+  told-room number = room-of a (λ words t. omega (arith, ap (λ w. getD w 0 0) (t .2), number (t .0) (t .1)))
 
-outcome-room : (Gives : Outcome → Type 0) (room answer : List ℕ) (o : Lending) → AnswersOutcome room (o .2) Gives answer (o .1) (o .0)
-    → ((u : Outcome) → Gives u → Listed (u .reply .number)) → AnswerRoom 3 answer (o .0) (o .1)
-outcome-room Gives room answer o a number =
-    room-of a
-    (listed-of (λ y. Gives (record { reply = y; room = o .2 })) replyWords (λ y g. number (record { reply = y; room = o .2 }) g))
+  -- Where the only result is z, its words are said.
+  said-of : (z : Y) → ((y : Y) → Inner y → (y ≡ z) × Untouched) → n ≤ length answer
+      → ((r ≡ getD (out z) 0 0) × (after ≡ out z ++ drop n answer)) × Untouched
+  said-of z only h =
+      let x = a .given h in
+      (answers-said a h (out z) (λ words t. t .2 ∙ ap out (only (t .0) (t .1) .0)), only (x .2 .0) (x .2 .1) .1)
+
+  -- Where a refused result leaves what was lent, so does the call.
+  kept-of : ((y : Y) → Inner y → (getD (out y) 0 0 ≡ 0 → ⊥) → Untouched) → Refused r → Untouched
+  kept-of keeps nonzero =
+      answers-refused a nonzero (λ e. e) (λ words t first. keeps (t .0) (t .1) (λ e. first (ap (λ w. getD w 0 0) (t .2) ∙ e)))
+
+-- One whose reply and room are an outcome, where only the refusal n is given.
+outcome-said : {room left answer after : List ℕ} {r : ℕ} {Replies : Reply → Type 0} → AnswersReply room left Replies answer after r → (n : ℕ)
+    → ((y : Reply) → Replies y → _≡_ {A = Outcome} (record { reply = y; room = left }) (refused n room)) → 3 ≤ length answer
+    → Said (n ∷ 0 ∷ 0 ∷ []) answer r after × (left ≡ room)
+outcome-said a n only =
+    said-of a (refusal n) (λ y g. (ap (λ (u : Outcome). u .reply) (only y g), ap (λ (u : Outcome). u .room) (only y g)))
+
+-- One that changes the task, where only the refusal n at a place is given: the task's words are left, and what else the result leaves.
+changed-said : (ws : List ℕ) {left answer after : List ℕ} {r : ℕ} {Untouched : Type 0} {Changes : TaskReply → Type 0}
+    → Answers changedLength Untouched
+    (λ words. (y : TaskReply) × (Changes y × (left ≡ lentBack ws (y .number) (y .task))) × (words ≡ changedWords (y .number) (y .place))) answer after r
+    → (n place : ℕ) → 0 < n
+    → ((y : TaskReply) → Changes y → (y ≡ record { number = n; place = place; task = taskIn ws }) × (left ≡ ws → Untouched)) → 2 ≤ length answer
+    → Said (n ∷ place ∷ []) answer r after × Untouched
+changed-said ws a n place h only =
+    said-of a (record { number = n; place = place; task = taskIn ws })
+    (λ y i.
+    let e = only y (i .0) in
+    let number = ap (λ (u : TaskReply). u .number) (e .0) in
+    (e .0, e .1 (i .1 ∙ lent-back-kept ws (y .number) (y .task) (λ k. omega arith))))
+
+-- ---- the theorems
 
 rooms : AnswerRooms
 unfolding HandsRecord ReadsTask WritesTask ChecksRun AppliesList SolvesTask OpensSession EditsSession ListsSession ListsInput
 rooms = record {
   record-room = λ file at answer o g.
       room-of (zp-record-gives file at answer o g) (λ words e. omega (arith, ap (λ w. getD w 0 0) e, record-number file at));
-  read-room = λ file answer o g.
-      room-of (zp-read-gives file answer o g)
-      (listed-of (ReadsFile file) (λ (y : TaskRead). taskAnswer (y .number) (y .place) (y .task)) (read-number file));
-  write-room = λ ws room answer o g.
-      outcome-room (λ u. u ≡ written (taskIn ws) room) room answer o (zp-write-gives ws room answer o g) (write-number (taskIn ws) room);
+  read-room = λ file answer o g. told-room (zp-read-gives file answer o g) (read-number file);
+  write-room = λ ws room answer o g. told-room (zp-write-gives ws room answer o g) (λ y i. write-fair (taskIn ws) room _ i .listed);
   check-room = λ ws answer o g.
       room-of (zp-check-gives ws answer o g) (λ words e. omega (arith, ap (λ w. getD w 0 0) e, check-number (taskIn ws)));
-  apply-room = λ ws list answer o g.
-      room-of (zp-apply-gives ws list answer o g)
-      (listed-of (λ y. Applies (taskIn ws) list y × (o .2 ≡ lentBack ws (y .number) (y .task)))
-      (λ (y : Applied). changedWords (y .number) (y .place)) (λ y i. apply-number (taskIn ws) list y (i .0)));
-  solve-room = λ ws room answer o g.
-      outcome-room (Solves (taskIn ws) room) room answer o (zp-solve-gives ws room answer o g) (solve-number (taskIn ws) room);
-  open-room = λ ws table answer o g.
-      room-of (zp-open-gives ws table answer o g)
-      (listed-of (λ y. Opens (taskIn ws) table y (o .2)) replyWords (λ y i. open-number (taskIn ws) table y (o .2) i));
+  apply-room = λ ws list answer o g. told-room (zp-apply-gives ws list answer o g) (λ y i. apply-number (taskIn ws) list y (i .0));
+  solve-room = λ ws room answer o g. told-room (zp-solve-gives ws room answer o g) (λ y i. solve-fair (taskIn ws) room _ i .listed);
+  open-room = λ ws table answer o g. told-room (zp-open-gives ws table answer o g) (λ y. open-number (taskIn ws) table y (o .2));
   edit-room = λ ws kind action fact present table answer o g.
-      let e = editOf kind action fact present in
-      room-of (zp-edit-gives ws kind action fact present table answer o g)
-      (listed-of (λ y. Edits (taskIn ws) table e y (o .3) × (o .2 ≡ lentBack ws (y .number) (y .task)))
-      (λ (y : Edited). changedWords (y .number) (y .place)) (λ y i. edit-number (taskIn ws) table e y (o .3) (i .0)));
-  list-room = λ ws table room answer o g.
-      outcome-room (λ u. u ≡ listed (taskIn ws) table room) room answer o (zp-list-gives ws table room answer o g)
-      (list-number (taskIn ws) table room);
-  listing-room = λ input room answer o g.
-      outcome-room (ListsInto input room) room answer o (zp-listing-gives input room answer o g) (listing-number input room);
+      told-room (zp-edit-gives ws kind action fact present table answer o g)
+      (λ y i. edit-number (taskIn ws) table (editOf kind action fact present) y (o .3) (i .0));
+  list-room = λ ws table room answer o g. told-room (zp-list-gives ws table room answer o g) (λ y i. list-fair (taskIn ws) table room _ i .listed);
+  listing-room = λ input room answer o g. told-room (zp-listing-gives input room answer o g) (λ y i. listing-fair input room _ i .listed);
 }
 
--- ---- what a refused call says, and that it leaves what was lent
-
--- A call whose answer is that of an inner result y.
-abbrev Telling : {Y : Type 0} → ℕ → Type 0 → (Y → Type 0) → (Y → List ℕ) → List ℕ → List ℕ → ℕ → Type 0
-Telling {Y} n Untouched Inner out = Answers n Untouched (λ words. (y : Y) × Inner y × (words ≡ out y))
-
-module _ {Y Untouched Left : Type 0} (n : ℕ) (Inner : Y → Type 0) (out : Y → List ℕ) {answer after : List ℕ} {r : ℕ}
-    (a : Telling n Untouched Inner out answer after r) where
-  -- Where the only result is z, its words are said.
-  said-of : (z : Y) → ((y : Y) → Inner y → (y ≡ z) × Left) → n ≤ length answer
-      → ((r ≡ getD (out z) 0 0) × (after ≡ out z ++ drop n answer)) × Left
-  said-of z only h =
-      let x = a .given h in
-      (answers-said a h (out z) (λ words t. t .2 ∙ ap out (only (t .0) (t .1) .0)), only (x .2 .0) (x .2 .1) .1)
-
-  -- Where a refused result leaves what was lent, so does the call.
-  kept-of : (r ≡ 0 → ⊥) → (Untouched → Left) → ((y : Y) → Inner y → (getD (out y) 0 0 ≡ 0 → ⊥) → Left) → Left
-  kept-of nonzero short made =
-      answers-refused a nonzero short (λ words t first. made (t .0) (t .1) (λ e. first (ap (λ w. getD w 0 0) (t .2) ∙ e)))
-
--- A call whose reply and room are one outcome.
-module _ (Gives : Outcome → Type 0) (room : List ℕ) {answer : List ℕ} (o : Lending) (a : AnswersOutcome room (o .2) Gives answer (o .1) (o .0)) where
-  abbrev With : Reply → Type 0
-  With y = Gives (record { reply = y; room = o .2 })
-
-  outcome-said : (n : ℕ) → ((u : Outcome) → Gives u → u ≡ refused n room) → 3 ≤ length answer
-      → Said (n ∷ 0 ∷ 0 ∷ []) answer (o .0) (o .1) × (o .2 ≡ room)
-  outcome-said n only =
-      said-of replyLength With replyWords a (refusal n)
-      (λ y g.
-      let e = only (record { reply = y; room = o .2 }) g in
-      (ap (λ (u : Outcome). u .reply) e, ap (λ (u : Outcome). u .room) e))
-
-  outcome-kept : ((u : Outcome) → Gives u → (u .reply .number ≡ 0 → ⊥) → u .room ≡ room) → Refused (o .0) → o .2 ≡ room
-  outcome-kept keeps nonzero = kept-of replyLength With replyWords a nonzero (λ e. e) (λ y g. keeps (record { reply = y; room = o .2 }) g)
-
--- Opening, where the refusal is n at place 0.
-opened-said : (ws table answer : List ℕ) (o : Lending) → OpensSession ws table (o .2) answer (o .1) (o .0) → (n : ℕ) → 0 < n
-    → openRefusal (taskIn ws) table ≡ record { number = n; place = 0 } → 3 ≤ length answer
-    → Said (n ∷ 0 ∷ 0 ∷ []) answer (o .0) (o .1) × (o .2 ≡ table)
-unfolding OpensSession
-opened-said ws table answer o a n h e =
-    said-of replyLength (λ y. Opens (taskIn ws) table y (o .2)) replyWords a (refusal n)
-    (λ y g. opens-unique (taskIn ws) table y (refusal n) (o .2) table g (opens-refused (taskIn ws) table n h e))
-
--- Applying a list, where only the refusal n at a place is given.
-applied-said : (ws list answer : List ℕ) (o : Lending) → AppliesList ws (o .2) list answer (o .1) (o .0) → (n place : ℕ) → 0 < n
-    → ((y : Applied) → Applies (taskIn ws) list y → y ≡ record { number = n; place = place; task = taskIn ws }) → 2 ≤ length answer
-    → Said (n ∷ place ∷ []) answer (o .0) (o .1) × (o .2 ≡ ws)
-unfolding AppliesList
-applied-said ws list answer o a n place h only =
-    said-of changedLength (λ y. Applies (taskIn ws) list y × (o .2 ≡ lentBack ws (y .number) (y .task)))
-    (λ (y : Applied). changedWords (y .number) (y .place)) a (record { number = n; place = place; task = taskIn ws })
-    (λ y g.
-    let e = only y (g .0) in
-    (e, g .1 ∙ ap (λ (u : Applied). lentBack ws (u .number) (u .task)) e ∙ lent-back-kept ws n (taskIn ws) (λ k. omega arith)))
-
 -- An edit, where the refusal is n at place 0.
-edited-said : (ws : List ℕ) (kind action fact present : ℕ) (table answer : List ℕ) (o : LendingTwo)
-    → EditsSession ws (o .2) kind action fact present table (o .3) answer (o .1) (o .0) → (n : ℕ) → 0 < n
-    → editRefusal (taskIn ws) table (editOf kind action fact present) ≡ record { number = n; place = 0 } → 2 ≤ length answer
+edited-said : (ws : List ℕ) (kind action fact present : ℕ) (table answer : List ℕ) → 2 ≤ length answer → (o : LendingTwo)
+    → ZpEditGives ws kind action fact present table answer o → (n : ℕ) → 0 < n
+    → editRefusal (taskIn ws) table (editOf kind action fact present) ≡ record { number = n; place = 0 }
     → Said (n ∷ 0 ∷ []) answer (o .0) (o .1) × ((o .2 ≡ ws) × (o .3 ≡ table))
 unfolding EditsSession
-edited-said ws kind action fact present table answer o a n h r =
-    let e = editOf kind action fact present in
-    let z : Edited = record { number = n; place = 0; task = taskIn ws } in
-    said-of changedLength (λ y. Edits (taskIn ws) table e y (o .3) × (o .2 ≡ lentBack ws (y .number) (y .task)))
-    (λ (y : Edited). changedWords (y .number) (y .place)) a z
-    (λ y g.
-    let same = edits-unique (taskIn ws) table e y z (o .3) table (g .0) (edits-refused (taskIn ws) table e n h r) in (
-      same .0,
-      (
-        g .1 ∙ ap (λ (u : Edited). lentBack ws (u .number) (u .task)) (same .0) ∙ lent-back-kept ws n (taskIn ws) (λ k. omega arith),
-        same .1,
-      ),
-    ))
-
--- ---- the theorems
+edited-said ws kind action fact present table answer enough o g n h is =
+    changed-said ws (zp-edit-gives ws kind action fact present table answer o g) n 0 h
+    (λ y i. let same = edit-refused (taskIn ws) table (editOf kind action fact present) n h is y i in (same .0, λ e. (e, same .1))) enough
 
 words-bad : (ws : List ℕ) → formed (taskIn ws) ≡ false → BadWords ws
-unfolding WritesTask ChecksRun SolvesTask ListsSession
+unfolding WritesTask ChecksRun AppliesList SolvesTask OpensSession ListsSession
 words-bad ws h =
     let t = taskIn ws in
     record {
-      write-it = λ room answer n o g.
-          outcome-said (λ u. u ≡ written t room) room o (zp-write-gives ws room answer o g) 12 (λ u e. e ∙ written-unformed t room h) n;
+      write-it = λ room answer n o g. outcome-said (zp-write-gives ws room answer o g) 12 (λ y e. e ∙ written-unformed t room h) n;
       check-it = λ answer n o g.
           answers-said (zp-check-gives ws answer o g) n (12 ∷ 0 ∷ 0 ∷ 0 ∷ 0 ∷ []) (λ words e. e ∙ ap checkedWords (check-malformed t h));
       apply-it = λ list answer n o g.
-          applied-said ws list answer o (zp-apply-gives ws list answer o g) 12 0 (omega arith)
-          (λ y a. applies-unique t list y _ a (applies-unformed t list h)) n;
-      solve-it = λ room answer n o g.
-          outcome-said (Solves t room) room o (zp-solve-gives ws room answer o g) 12 (λ u s. s .malformed h) n;
+          changed-said ws (zp-apply-gives ws list answer o g) 12 0 (omega arith)
+          (λ y i. (applies-unique t list y _ i (applies-unformed t list h), λ e. e)) n;
+      solve-it = λ room answer n o g. outcome-said (zp-solve-gives ws room answer o g) 12 (λ y s. s .malformed h) n;
       open-it = λ table answer n o g.
-          opened-said ws table answer o (zp-open-gives ws table answer o g) 12 (omega arith) (open-malformed t table h) n;
+          said-of (zp-open-gives ws table answer o g) (refusal 12) (open-refused t table 12 (omega arith) (open-malformed t table h)) n;
       edit-it = λ kind action fact present table answer n o g.
-          edited-said ws kind action fact present table answer o (zp-edit-gives ws kind action fact present table answer o g) 12 (omega arith)
-          (edit-malformed t table (editOf kind action fact present) h) n;
-      list-it = λ table room answer n o g.
-          outcome-said (λ u. u ≡ listed t table room) room o (zp-list-gives ws table room answer o g) 12
-          (λ u e. e ∙ listed-malformed t table room h) n;
+          edited-said ws kind action fact present table answer n o g 12 (omega arith) (edit-malformed t table (editOf kind action fact present) h);
+      list-it = λ table room answer n o g. outcome-said (zp-list-gives ws table room answer o g) 12 (λ y e. e ∙ listed-malformed t table room h) n;
     }
 
 table-bad : (ws table : List ℕ) → WellFormed (taskIn ws) → BadTable ws table
-unfolding ListsSession
+unfolding OpensSession ListsSession
 table-bad ws table w =
     let t = taskIn ws in
+    let f = well-formed t w in
     record {
       open-it = λ other answer n o g.
-          opened-said ws table answer o (zp-open-gives ws table answer o g) 13 (omega arith) (open-not-a-session t table (well-formed t w) other) n;
+          said-of (zp-open-gives ws table answer o g) (refusal 13) (open-refused t table 13 (omega arith) (open-not-a-session t table f other)) n;
       edit-it = λ other kind action fact present answer n o g.
-          edited-said ws kind action fact present table answer o (zp-edit-gives ws kind action fact present table answer o g) 13 (omega arith)
-          (edit-not-a-session t table (editOf kind action fact present) (well-formed t w) other) n;
-      list-it = λ h room answer n o g.
-          outcome-said (λ u. u ≡ listed t table room) room o (zp-list-gives ws table room answer o g) 13
-          (λ u e. e ∙ listed-not-a-session t table room w h) n;
+          edited-said ws kind action fact present table answer n o g 13 (omega arith)
+          (edit-not-a-session t table (editOf kind action fact present) f other);
+      list-it = λ h room answer n o g. outcome-said (zp-list-gives ws table room answer o g) 13 (λ y e. e ∙ listed-not-a-session t table room w h) n;
     }
 
 file-bad : (file : List ℕ) → ((t : Task) → WellFormed t → file ≡ fileOf t → ⊥) → (answer : List ℕ) → 168 ≤ length answer → (o : Alone)
@@ -378,29 +314,20 @@ boundary-demand = record {
   other-words = λ ws h. words-bad ws (other-length ws h);
   bad-tables = table-bad;
   bad-lists = λ ws list w bad answer n o g.
-      applied-said ws list answer o (zp-apply-gives ws list answer o g) 15 (firstWrong (cellsOf (taskIn ws .table)) list) (omega arith)
-      (bad-list (taskIn ws) w (well-formed (taskIn ws) w) list bad) n;
+      changed-said ws (zp-apply-gives ws list answer o g) 15 (firstWrong (cellsOf (taskIn ws .table)) list) (omega arith)
+      (λ y i. (bad-list (taskIn ws) w (well-formed (taskIn ws) w) list bad y i, λ e. e)) n;
   bad-edits = λ ws kind action fact present table w h outside answer n o g.
-      edited-said ws kind action fact present table answer o (zp-edit-gives ws kind action fact present table answer o g) 14 (omega arith)
-      (edit-outside (taskIn ws) table (editOf kind action fact present) (well-formed (taskIn ws) w) h outside) n;
-  write-changes-nothing = λ ws room answer o g.
-      outcome-kept (λ u. u ≡ written (taskIn ws) room) room o (zp-write-gives ws room answer o g) (write-keeps (taskIn ws) room);
-  apply-changes-nothing = λ ws list answer o g nonzero.
-      kept-of changedLength (λ y. Applies (taskIn ws) list y × (o .2 ≡ lentBack ws (y .number) (y .task)))
-      (λ (y : Applied). changedWords (y .number) (y .place)) (zp-apply-gives ws list answer o g) nonzero (λ e. e)
-      (λ y i first. i .1 ∙ lent-back-kept ws (y .number) (y .task) first);
-  solve-changes-nothing = λ ws room answer o g.
-      outcome-kept (Solves (taskIn ws) room) room o (zp-solve-gives ws room answer o g) (solve-keeps (taskIn ws) room);
-  open-changes-nothing = λ ws table answer o g nonzero.
-      kept-of replyLength (λ y. Opens (taskIn ws) table y (o .2)) replyWords (zp-open-gives ws table answer o g) nonzero (λ e. e)
-      (λ y i first. i .refused first .1);
-  edit-changes-nothing = λ ws kind action fact present table answer o g nonzero.
-      kept-of changedLength
-      (λ y. Edits (taskIn ws) table (editOf kind action fact present) y (o .3) × (o .2 ≡ lentBack ws (y .number) (y .task)))
-      (λ (y : Edited). changedWords (y .number) (y .place)) (zp-edit-gives ws kind action fact present table answer o g) nonzero (λ e. e)
+      edited-said ws kind action fact present table answer n o g 14 (omega arith)
+      (edit-outside (taskIn ws) table (editOf kind action fact present) (well-formed (taskIn ws) w) h outside);
+  write-changes-nothing = λ ws room answer o g. kept-of (zp-write-gives ws room answer o g) (λ y i. write-fair (taskIn ws) room _ i .keeps);
+  apply-changes-nothing = λ ws list answer o g.
+      kept-of (zp-apply-gives ws list answer o g) (λ y i first. i .1 ∙ lent-back-kept ws (y .number) (y .task) first);
+  solve-changes-nothing = λ ws room answer o g. kept-of (zp-solve-gives ws room answer o g) (λ y i. solve-fair (taskIn ws) room _ i .keeps);
+  open-changes-nothing = λ ws table answer o g. kept-of (zp-open-gives ws table answer o g) (λ y i first. i .refused first .1);
+  edit-changes-nothing = λ ws kind action fact present table answer o g.
+      kept-of (zp-edit-gives ws kind action fact present table answer o g)
       (λ y i first. (i .1 ∙ lent-back-kept ws (y .number) (y .task) first, i .0 .refused first .1));
   list-changes-nothing = λ ws table room answer o g.
-      outcome-kept (λ u. u ≡ listed (taskIn ws) table room) room o (zp-list-gives ws table room answer o g) (list-keeps (taskIn ws) table room);
-  listing-changes-nothing = λ input room answer o g.
-      outcome-kept (ListsInto input room) room o (zp-listing-gives input room answer o g) (listing-keeps input room);
+      kept-of (zp-list-gives ws table room answer o g) (λ y i. list-fair (taskIn ws) table room _ i .keeps);
+  listing-changes-nothing = λ input room answer o g. kept-of (zp-listing-gives input room answer o g) (λ y i. listing-fair input room _ i .keeps);
 }

@@ -126,7 +126,7 @@ module _ (t : Task) (v : ℕ → Verdict) (h : certified t v ≡ true) where
   pub certified-only : (whole : Verdict) → joinVerdicts v (t .table .facts) (t .table .limit) ≡ whole → (room : List ℕ) → Only (Solves t room) (told whole room)
   certified-only whole e room =
       let w = certified-well in
-      let joined = join-for t w v maxRow (t .table .limit) (w .limit-high)
+      let joined = join-for t w v
       (λ f low. certifies-within (cellsOf (t .table)) (courseOf (t .run)) f (v f) (certified-parts .2 f low)) in
       let solved : Solves t room (told whole room) = record {
         malformed = λ no. absurd (true≢false (sym (certified-parts .1) ∙ no));

@@ -18,7 +18,7 @@ use Rattle.change.proofs.Called.{ApplyGives, apply-gives, apply-asks-nothing}
 use Rattle.change.proofs.apply.apply.Reads as apply
 use Rattle.change.specs.Applying.{firstWrong}
 use Rattle.change.specs.Editing.{cellInside}
-use Rattle.change.specs.declared.Applied.{Applied}
+use Rattle.table.specs.declared.TaskReply.{TaskReply}
 use Rattle.change.specs.declared.Edit.{Edit}
 use Rattle.listing.proofs.Called.{ListingGives, listing-gives, listing-asks-nothing}
 use Rattle.listing.proofs.CutLaws.{listing-cut}
@@ -29,17 +29,16 @@ use Rattle.runcheck.proofs.check_run.Reads as check
 use Rattle.runcheck.proofs.Valid.{checked-zero-valid, valid-checked-zero}
 use Rattle.runcheck.specs.OpenNeeds.{refusedCheck}
 use Rattle.runcheck.specs.declared.Checked.{Checked}
-use Rattle.session.proofs.CallLaws.{made-unique, open-malformed, open-not-a-session, edit-malformed, edit-not-a-session, edit-outside, opens-refused, edits-refused, opens-unique, edits-unique, listed-malformed, listed-not-a-session}
+use Rattle.session.proofs.CallLaws.{made-unique, open-malformed, open-not-a-session, edit-malformed, edit-not-a-session, edit-outside, listed-malformed, listed-not-a-session}
 use Rattle.session.proofs.Called.{OpenGives, open-gives, open-asks-nothing, EditGives, edit-gives, edit-asks-nothing, ListGives, list-gives, list-asks-nothing}
-use Rattle.session.proofs.Demand3.{opening-accepts, story-ends, ends-solved}
+use Rattle.session.proofs.StoryLaws.{opening-accepts, story-ends, ends-solved}
 use Rattle.session.proofs.edit.Reads as edit
 use Rattle.session.proofs.list.Reads as list
 use Rattle.session.proofs.open.Reads as opening
 use Rattle.session.specs.Calls.{Story, told-all, then, Made, names}
 use Rattle.session.specs.Sessions.{inForm}
-use Rattle.session.specs.declared.Edited.{Edited}
 use Rattle.solve.proofs.Called.{SolveGives, solve-gives, solve-asks-nothing}
-use Rattle.solve.proofs.RowLaws.{stored-limit, stored-unique}
+use Rattle.solve.proofs.TableLaws.{stored-limit, stored-unique}
 use Rattle.solve.proofs.solve.Reads as solve
 use Rattle.solve.proofs.Hopeless.{nine-stuck, stuck-nine}
 use Rattle.solve.specs.Stuck.{Stuck}
@@ -60,19 +59,18 @@ use Rattle.table.specs.Tasks.{cellsOf, courseOf, WorksFor, formed, WellFormed, 
 use Rattle.table.specs.declared.Reply.{Reply}
 use Rattle.table.specs.declared.Task.{Task}
 use Rattle.taskfile.proofs.Called.{record-asks-nothing, body-asks-nothing, ReadGives, read-gives, read-asks-nothing}
-use Rattle.taskfile.proofs.Files.{accepted-read, one-task, cut-decides}
+use Rattle.taskfile.proofs.FilesAreTasks.{accepted-read, one-task, cut-decides}
 use Rattle.taskfile.proofs.Unique.{reads-unique}
 use Rattle.taskfile.proofs.read.Reads as read
 use Rattle.taskfile.proofs.record.body_at.Reads as body-at
 use Rattle.taskfile.proofs.record.record_at.Reads as record-at
 use Rattle.taskfile.specs.Format.{fileOf}
 use Rattle.taskfile.specs.Reading.{acceptedRead}
-use Rattle.taskfile.specs.declared.TaskRead.{TaskRead}
 use Rattle.taskwriter.proofs.Called.{WriteGives, write-gives, write-asks-nothing}
 use Rattle.taskwriter.proofs.WritingLaws.{written-unformed, written-file}
 use Rattle.taskwriter.proofs.write.Reads as write
 use Rattle.promises.proofs.FileLaws.{read-is-exact, reads-back, writes-back}
-use Rattle.promises.proofs.BadInputLaws.{BadFile, bad-file, write-keeps, check-malformed, bad-list, solve-keeps, list-keeps, listing-keeps}
+use Rattle.promises.proofs.BadInputLaws.{BadFile, bad-file, check-malformed, bad-list, open-refused, edit-refused, write-fair, solve-fair, list-fair, listing-fair}
 use Rattle.promises.proofs.SolvedLaws.{least-length, least-first, accepted-answer, over-exactly, hopeless-exactly, short-exactly, works-cures}
 
 -- A call is refused: its number is not 0.
@@ -101,17 +99,17 @@ pub record BadTask (t : Task) : Type 0 where
   pub formed-it : (b : Bool) → FormedGives t b → b ≡ false
   pub write-it : (room : List ℕ) (o : Outcome) → WriteGives t room o → o ≡ refused 12 room
   pub check-it : (r : Checked) → CheckGives t r → r ≡ refusedCheck 12
-  pub apply-it : (l : List ℕ) (r : Applied) → ApplyGives t l r → r ≡ record { number = 12; place = 0; task = t }
+  pub apply-it : (l : List ℕ) (r : TaskReply) → ApplyGives t l r → r ≡ record { number = 12; place = 0; task = t }
   pub solve-it : (room : List ℕ) (o : Outcome) → SolveGives t room o → o ≡ refused 12 room
   pub open-it : (s after : List ℕ) (r : Reply) → OpenGives t s r after → (r ≡ record { number = 12; place = 0; length = 0 }) × (after ≡ s)
-  pub edit-it : (s after : List ℕ) (e : Edit) (r : Edited) → EditGives t s e r after → (r ≡ record { number = 12; place = 0; task = t }) × (after ≡ s)
+  pub edit-it : (s after : List ℕ) (e : Edit) (r : TaskReply) → EditGives t s e r after → (r ≡ record { number = 12; place = 0; task = t }) × (after ≡ s)
   pub list-it : (s room : List ℕ) (o : Outcome) → ListGives t s room o → o ≡ refused 12 room
 
 -- What the session's calls give for a well-formed task and a table of another length, or, in listing, not in form: refusal 13 at 0.
 pub record BadSession (t : Task) (s : List ℕ) : Type 0 where
   pub open-it : (length s ≡ 448 → ⊥) → (after : List ℕ) (r : Reply) → OpenGives t s r after
       → (r ≡ record { number = 13; place = 0; length = 0 }) × (after ≡ s)
-  pub edit-it : (length s ≡ 448 → ⊥) → (after : List ℕ) (e : Edit) (r : Edited) → EditGives t s e r after
+  pub edit-it : (length s ≡ 448 → ⊥) → (after : List ℕ) (e : Edit) (r : TaskReply) → EditGives t s e r after
       → (r ≡ record { number = 13; place = 0; task = t }) × (after ≡ s)
   pub list-it : inForm t s ≡ false → (room : List ℕ) (o : Outcome) → ListGives t s room o → o ≡ refused 13 room
 
@@ -119,31 +117,31 @@ pub record BadSession (t : Task) (s : List ℕ) : Type 0 where
 -- call changes no byte or number lent to it."
 pub record Demand1 : Type 0 where
   pub defined : AllDefined
-  -- "Bad files .. get document 01's numbered refusal": 1 to 8, and a task of zeros. Which, and where: RefusalTable.
-  pub bad-files : (s : List ℕ) (r : TaskRead) → ReadGives s r → ((t : Task) → WellFormed t → s ≡ fileOf t → ⊥) → BadFile r
+  -- "Bad files .. get document 01's numbered refusal": 1 to 8, and a task of zeros. Which, and where: `refusal-files` (BenchSheet).
+  pub bad-files : (s : List ℕ) (r : TaskReply) → ReadGives s r → ((t : Task) → WellFormed t → s ≡ fileOf t → ⊥) → BadFile r
   -- "tables": of actions (12), and of a session (13)
   pub bad-tasks : (t : Task) → formed t ≡ false → BadTask t
   pub bad-sessions : (t : Task) → WellFormed t → (s : List ℕ) → BadSession t s
   -- "lists": 15 at the index of the first number that does not ascend or is not permitted
-  pub bad-lists : (t : Task) → WellFormed t → (l : List ℕ) → (Permitted (cellsOf (t .table)) l → ⊥) → (r : Applied) → ApplyGives t l r
+  pub bad-lists : (t : Task) → WellFormed t → (l : List ℕ) → (Permitted (cellsOf (t .table)) l → ⊥) → (r : TaskReply) → ApplyGives t l r
       → r ≡ record { number = 15; place = firstWrong (cellsOf (t .table)) l; task = t }
   -- "and edits": 14
   pub bad-edits : (t : Task) → WellFormed t → (s : List ℕ) → length s ≡ 448 → (e : Edit) → cellInside t (e .cell) ≡ false
-      → (after : List ℕ) (r : Edited) → EditGives t s e r after → (r ≡ record { number = 14; place = 0; task = t }) × (after ≡ s)
+      → (after : List ℕ) (r : TaskReply) → EditGives t s e r after → (r ≡ record { number = 14; place = 0; task = t }) × (after ≡ s)
   -- "a refused call changes no byte or number lent to it"; a refused applying or edit gives the task back
   pub write-changes-nothing : (t : Task) (room : List ℕ) (o : Outcome) → WriteGives t room o → Refused (o .reply .number) → o .room ≡ room
   pub solve-changes-nothing : (t : Task) (room : List ℕ) (o : Outcome) → SolveGives t room o → Refused (o .reply .number) → o .room ≡ room
   pub open-changes-nothing : (t : Task) (s after : List ℕ) (r : Reply) → OpenGives t s r after → Refused (r .number) → after ≡ s
-  pub edit-changes-nothing : (t : Task) (s after : List ℕ) (e : Edit) (r : Edited) → EditGives t s e r after → Refused (r .number)
+  pub edit-changes-nothing : (t : Task) (s after : List ℕ) (e : Edit) (r : TaskReply) → EditGives t s e r after → Refused (r .number)
       → (r .task ≡ t) × (after ≡ s)
   pub list-changes-nothing : (t : Task) (s room : List ℕ) (o : Outcome) → ListGives t s room o → Refused (o .reply .number) → o .room ≡ room
   pub listing-changes-nothing : (input room : List ℕ) (o : Outcome) → ListingGives input room o → Refused (o .reply .number) → o .room ≡ room
-  pub apply-changes-nothing : (t : Task) (l : List ℕ) (r : Applied) → ApplyGives t l r → Refused (r .number) → r .task ≡ t
+  pub apply-changes-nothing : (t : Task) (l : List ℕ) (r : TaskReply) → ApplyGives t l r → Refused (r .number) → r .task ≡ t
 
 -- ---- demand 2
 
 -- What an accepted solve of a well-formed task gave.
-pub record Given (t : Task) (room : List ℕ) (o : Outcome) : Type 0 where
+pub record Solved (t : Task) (room : List ℕ) (o : Outcome) : Type 0 where
   -- "the list given", in the room's first places and nothing beside; within the limit
   pub list : List ℕ
   pub shown : o ≡ answered list room
@@ -156,7 +154,7 @@ pub record Given (t : Task) (room : List ℕ) (o : Outcome) : Type 0 where
   -- "and among equals it is the first in the stated order"
   pub first : (m : List ℕ) → WorksFor t m → length m ≡ length list → NotAfter list m
   -- so that applying it is accepted, and the run check then finds nothing open
-  pub cures : (r : Applied) → ApplyGives t list r
+  pub cures : (r : TaskReply) → ApplyGives t list r
       → (r .number ≡ 0) × Valid (cellsOf (r .task .table)) (courseOf (r .task .run)) × ((c : Checked) → CheckGives (r .task) c → c .total ≡ 0)
 
 -- "Files and tables match exactly, read and written. Repairs have the published STRIPS meaning: the list given makes the run executable
@@ -165,22 +163,22 @@ pub record Given (t : Task) (room : List ℕ) (o : Outcome) : Type 0 where
 -- limit, and as hopeless exactly when none of any length works."
 pub record Demand2 : Type 0 where
   -- "Files and tables match exactly, read": a file is accepted exactly if it is the file of a well-formed task, and then that task is read
-  pub read-exactly : (s : List ℕ) (r : TaskRead) → ReadGives s r → (t : Task) → (r ≡ acceptedRead t) ↔ (WellFormed t × (s ≡ fileOf t))
-  pub accepted-reads : (s : List ℕ) (r : TaskRead) → ReadGives s r → r .number ≡ 0 → r ≡ acceptedRead (r .task)
+  pub read-exactly : (s : List ℕ) (r : TaskReply) → ReadGives s r → (t : Task) → (r ≡ acceptedRead t) ↔ (WellFormed t × (s ≡ fileOf t))
+  pub accepted-reads : (s : List ℕ) (r : TaskReply) → ReadGives s r → r .number ≡ 0 → r ≡ acceptedRead (r .task)
   pub one-file : (t q : Task) → WellFormed t → WellFormed q → fileOf t ≡ fileOf q → t ≡ q
   -- "and written": into enough room the file, from the first place on and nothing beside
   pub written-exactly : (t : Task) → WellFormed t → (room : List ℕ) → length (fileOf t) ≤ length room → (o : Outcome) → WriteGives t room o
       → o ≡ answered (fileOf t) room
   -- both round trips: reading what was written gives the task, writing what was read gives the bytes
   pub read-back : (t : Task) → WellFormed t → (room : List ℕ) (o : Outcome) → WriteGives t room o → o .reply .number ≡ 0
-      → (r : TaskRead) → ReadGives (take (o .reply .length) (o .room)) r → r ≡ acceptedRead t
-  pub write-back : (s : List ℕ) (r : TaskRead) → ReadGives s r → r .number ≡ 0
+      → (r : TaskReply) → ReadGives (take (o .reply .length) (o .room)) r → r ≡ acceptedRead t
+  pub write-back : (s : List ℕ) (r : TaskReply) → ReadGives s r → r .number ≡ 0
       → (room : List ℕ) → length s ≤ length room → (o : Outcome) → WriteGives (r .task) room o → o ≡ answered s room
   -- 01: "at most 20,000 bytes; later bytes can't alter its answer", neither what is read nor what is listed
-  pub later-bytes : (s : List ℕ) (r q : TaskRead) → ReadGives (take 20000 s) r → ReadGives s q → r ≡ q
+  pub later-bytes : (s : List ℕ) (r q : TaskReply) → ReadGives (take 20000 s) r → ReadGives s q → r ≡ q
   pub later-bytes-listed : (s room : List ℕ) (o p : Outcome) → ListingGives (take 20000 s) room o → ListingGives s room p → o ≡ p
   -- "the list given makes .., no shorter .., and among equals .."
-  pub given : (t : Task) → WellFormed t → (room : List ℕ) (o : Outcome) → SolveGives t room o → o .reply .number ≡ 0 → Given t room o
+  pub given : (t : Task) → WellFormed t → (room : List ℕ) (o : Outcome) → SolveGives t room o → o .reply .number ≡ 0 → Solved t room o
   -- "refused as over the limit exactly when some permitted list works but none within the limit", in whatever room
   pub over-the-limit : (t : Task) → WellFormed t → (room : List ℕ) (o : Outcome) → SolveGives t room o
       → (o .reply .number ≡ 10) ↔ (((m : List ℕ) × WorksFor t m) × ((m : List ℕ) → WorksFor t m → t .table .limit < length m))
@@ -205,7 +203,7 @@ pub record Demand2 : Type 0 where
 -- Edits made one after another, each by a call of `edit`, accepted or refused: from the task t and the table s to u and `end`.
 pub data EditsMade : Task → List ℕ → List Edit → Task → List ℕ → Type 0 where
   none-left : {t : Task} {s : List ℕ} → EditsMade t s [] t s
-  and-then : {t : Task} {s : List ℕ} {e : Edit} {r : Edited} {after : List ℕ} {es : List Edit} {u : Task} {end : List ℕ}
+  and-then : {t : Task} {s : List ℕ} {e : Edit} {r : TaskReply} {after : List ℕ} {es : List Edit} {u : Task} {end : List ℕ}
       → EditGives t s e r after → EditsMade (r .task) after es u end → EditsMade t s (e ∷ es) u end
 
 -- After an opening that was accepted, and any edits: the end is the task u and the table `end`.
@@ -240,19 +238,15 @@ bad-task t h = record {
   check-it = λ r g. check-gives t r g ∙ check-malformed t h;
   apply-it = λ l r g. applies-unique t l r _ (apply-gives t l r g) (applies-unformed t l h);
   solve-it = λ room o g. solve-gives t room o g .malformed h;
-  open-it = λ s after r g.
-      opens-unique t s r _ after s (open-gives t s r after g) (opens-refused t s 12 (omega arith) (open-malformed t s h));
-  edit-it = λ s after e r g.
-      edits-unique t s e r _ after s (edit-gives t s e r after g) (edits-refused t s e 12 (omega arith) (edit-malformed t s e h));
+  open-it = λ s after r g. open-refused t s 12 (omega arith) (open-malformed t s h) r (open-gives t s r after g);
+  edit-it = λ s after e r g. edit-refused t s e 12 (omega arith) (edit-malformed t s e h) r (edit-gives t s e r after g);
   list-it = λ s room o g. list-gives t s room o g ∙ listed-malformed t s room h;
 }
 
 bad-session : (t : Task) → WellFormed t → (s : List ℕ) → BadSession t s
 bad-session t w s = record {
-  open-it = λ n after r g.
-      opens-unique t s r _ after s (open-gives t s r after g) (opens-refused t s 13 (omega arith) (open-not-a-session t s (well-formed t w) n));
-  edit-it = λ n after e r g.
-      edits-unique t s e r _ after s (edit-gives t s e r after g) (edits-refused t s e 13 (omega arith) (edit-not-a-session t s e (well-formed t w) n));
+  open-it = λ n after r g. open-refused t s 13 (omega arith) (open-not-a-session t s (well-formed t w) n) r (open-gives t s r after g);
+  edit-it = λ n after e r g. edit-refused t s e 13 (omega arith) (edit-not-a-session t s e (well-formed t w) n) r (edit-gives t s e r after g);
   list-it = λ h room o g. list-gives t s room o g ∙ listed-not-a-session t s room w h;
 }
 
@@ -276,18 +270,17 @@ demand-one = record {
   bad-tasks = bad-task;
   bad-sessions = bad-session;
   bad-lists = λ t w l bad r g. bad-list t w (well-formed t w) l bad r (apply-gives t l r g);
-  bad-edits = λ t w s n e h after r g.
-      edits-unique t s e r _ after s (edit-gives t s e r after g) (edits-refused t s e 14 (omega arith) (edit-outside t s e (well-formed t w) n h));
-  write-changes-nothing = λ t room o g. write-keeps t room o (write-gives t room o g);
-  solve-changes-nothing = λ t room o g. solve-keeps t room o (solve-gives t room o g);
+  bad-edits = λ t w s n e h after r g. edit-refused t s e 14 (omega arith) (edit-outside t s e (well-formed t w) n h) r (edit-gives t s e r after g);
+  write-changes-nothing = λ t room o g. write-fair t room o (write-gives t room o g) .keeps;
+  solve-changes-nothing = λ t room o g. solve-fair t room o (solve-gives t room o g) .keeps;
   open-changes-nothing = λ t s after r g h. open-gives t s r after g .refused h .1;
   edit-changes-nothing = λ t s after e r g h. edit-gives t s e r after g .refused h;
-  list-changes-nothing = λ t s room o g. list-keeps t s room o (list-gives t s room o g);
-  listing-changes-nothing = λ input room o g. listing-keeps input room o (listing-gives input room o g);
+  list-changes-nothing = λ t s room o g. list-fair t s room o (list-gives t s room o g) .keeps;
+  listing-changes-nothing = λ input room o g. listing-fair input room o (listing-gives input room o g) .keeps;
   apply-changes-nothing = λ t l r g h. apply-gives t l r g .refused h;
 }
 
-given-list : (t : Task) → WellFormed t → (room : List ℕ) (o : Outcome) → SolveGives t room o → o .reply .number ≡ 0 → Given t room o
+given-list : (t : Task) → WellFormed t → (room : List ℕ) (o : Outcome) → SolveGives t room o → o .reply .number ≡ 0 → Solved t room o
 given-list t w room o g h =
     let x = accepted-answer t w room o (solve-gives t room o g) h in
     record {

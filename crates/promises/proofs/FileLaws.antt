@@ -11,19 +11,19 @@ use Rattle.table.specs.Outcomes.{Outcome, answered}
 use Rattle.table.specs.Tasks.{WellFormed}
 use Rattle.table.specs.declared.Task.{Task}
 use Rattle.taskfile.proofs.Called.{ReadGives, read-gives}
-use Rattle.taskfile.proofs.FileReads.{file-accepted}
-use Rattle.taskfile.proofs.Files.{accepted-exactly, accepted-read}
+use Rattle.taskfile.proofs.FileIsAccepted.{file-accepted}
+use Rattle.taskfile.proofs.FilesAreTasks.{accepted-exactly, accepted-read}
 use Rattle.taskfile.proofs.Unique.{reads-unique}
 use Rattle.taskfile.specs.Format.{fileOf}
 use Rattle.taskfile.specs.Reading.{acceptedRead, ReadsFile}
-use Rattle.taskfile.specs.declared.TaskRead.{TaskRead}
+use Rattle.table.specs.declared.TaskReply.{TaskReply}
 use Rattle.taskwriter.proofs.Called.{WriteGives, write-gives}
 use Rattle.taskwriter.proofs.WritingLaws.{written-short, written-file}
 use Rattle.taskwriter.specs.Writing.{written}
 use Rattle.table.proofs.FlagLaws.{by-order}
 
 -- A file is read as t exactly if t is well formed and it is its file.
-pub read-is-exact : (s : List ℕ) (r : TaskRead) → ReadGives s r → (t : Task) → (r ≡ acceptedRead t) ↔ (WellFormed t × (s ≡ fileOf t))
+pub read-is-exact : (s : List ℕ) (r : TaskReply) → ReadGives s r → (t : Task) → (r ≡ acceptedRead t) ↔ (WellFormed t × (s ≡ fileOf t))
 read-is-exact s r g t = (
   λ e. accepted-exactly s t .0 (subst (ReadsFile s) e (read-gives s r g)),
   λ is. reads-unique (read-gives s r g) (accepted-exactly s t .1 is),
@@ -37,14 +37,14 @@ written-accepted t w room o e ok =
     (λ h. e ∙ written-file t room (well-formed t w) h)
 
 pub reads-back : (t : Task) → WellFormed t → (room : List ℕ) (o : Outcome) → WriteGives t room o → o .reply .number ≡ 0
-    → (r : TaskRead) → ReadGives (take (o .reply .length) (o .room)) r → r ≡ acceptedRead t
+    → (r : TaskReply) → ReadGives (take (o .reply .length) (o .room)) r → r ≡ acceptedRead t
 reads-back t w room o g ok r h =
     let e = written-accepted t w room o (write-gives t room o g) ok in
     let bytes : take (o .reply .length) (o .room) ≡ fileOf t =
     ap (λ (x : Outcome). take (x .reply .length) (x .room)) e ∙ take-append-seam (fileOf t) (drop (length (fileOf t)) room) in
     reads-unique (subst (λ (b : List ℕ). ReadsFile b r) bytes (read-gives (take (o .reply .length) (o .room)) r h)) (file-accepted t w)
 
-pub writes-back : (s : List ℕ) (r : TaskRead) → ReadGives s r → r .number ≡ 0
+pub writes-back : (s : List ℕ) (r : TaskReply) → ReadGives s r → r .number ≡ 0
     → (room : List ℕ) → length s ≤ length room → (o : Outcome) → WriteGives (r .task) room o → o ≡ answered s room
 writes-back s r g ok room n o h =
     let reads = read-gives s r g in

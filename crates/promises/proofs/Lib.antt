@@ -1,13 +1,11 @@
 -- The promises: open Demands first.
 pub mod CertificateLaws
 pub mod BenchSheet
-pub mod OneResult
 pub mod Unique
 pub mod UniqueBoundary
 pub mod BadInputLaws
 pub mod FileLaws
 pub mod SolvedLaws
 pub mod Demands
-pub mod NumberLaws
 pub mod BoundaryDemand
 pub mod ReplayLaws

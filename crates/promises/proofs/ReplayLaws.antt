@@ -11,7 +11,7 @@ use lib.Seq.{getD-drop, drop-drop}
 use borrow.Author.Tests.{eqb-true, eqb-false}
 use Rattle.change.specs.declared.Edit.{Edit}
 use Rattle.session.specs.Calls.{Edits, Story, told-all, then}
-use Rattle.session.specs.declared.Edited.{Edited}
+use Rattle.table.specs.declared.TaskReply.{TaskReply}
 use Rattle.table.specs.Refusals.{accepted}
 use Rattle.table.specs.declared.Task.{Task}
 use Rattle.promises.specs.Replays.{editPlaces, editAt, editsIn}
@@ -48,7 +48,7 @@ edits-next l i h =
 
 -- ---- the story so far
 
-edits-length : (t : Task) (s : List ℕ) (e : Edit) (r : Edited) (after : List ℕ) → Edits t s e r after → length after ≡ length s
+edits-length : (t : Task) (s : List ℕ) (e : Edit) (r : TaskReply) (after : List ℕ) → Edits t s e r after → length after ≡ length s
 edits-length t s e r after a = pick (eqb (r .number) accepted) refl
   where
     pick : (x : Bool) → eqb (r .number) accepted ≡ x → length after ≡ length s
@@ -65,7 +65,7 @@ module _ (t : Task) (s edits : List ℕ) where
   pub replayed-none : Replayed t s edits 0 t s
   replayed-none = record { turns = omega arith; places = refl; story = λ u end x. x }
 
-  pub replayed-more : (i : ℕ) (now : Task) (table : List ℕ) (e : Edit) (r : Edited) (after : List ℕ) → i < length edits / editPlaces
+  pub replayed-more : (i : ℕ) (now : Task) (table : List ℕ) (e : Edit) (r : TaskReply) (after : List ℕ) → i < length edits / editPlaces
       → Replayed t s edits i now table → e ≡ editAt edits (editPlaces * i) → Edits now table e r after
       → Replayed t s edits (i + 1) (r .task) after
   replayed-more i now table e r after h b at done = record {

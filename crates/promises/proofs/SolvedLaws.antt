@@ -9,7 +9,7 @@ use Rattle.change.proofs.ApplyLaws.{applies-made, applies-unique, applied-well,
 use Rattle.change.proofs.PermittedLaws.{list-permitted}
 use Rattle.change.specs.Applying.{Applies}
 use Rattle.change.specs.Kinds.{oneByOne}
-use Rattle.change.specs.declared.Applied.{Applied}
+use Rattle.table.specs.declared.TaskReply.{TaskReply}
 use Rattle.runcheck.proofs.Valid.{valid-checked-zero}
 use Rattle.runcheck.specs.OpenNeeds.{checked}
 use Rattle.solve.specs.Solving.{told, Solves}
@@ -115,12 +115,12 @@ module _ (t : Task) (w : WellFormed t) (room : List ℕ) (o : Outcome) (s : Solv
 -- ---- the list applied
 
 -- A list that works is accepted by applying it, the run is then valid, and the run check finds nothing open.
-pub works-cures : (t : Task) → WellFormed t → (l : List ℕ) → WorksFor t l → (r : Applied) → Applies t l r
+pub works-cures : (t : Task) → WellFormed t → (l : List ℕ) → WorksFor t l → (r : TaskReply) → Applies t l r
     → (r .number ≡ accepted) × Valid (cellsOf (r .task .table)) (courseOf (r .task .run)) × (checked (r .task) .total ≡ 0)
 works-cures t w l works r a =
     let right = list-permitted (cellsOf (t .table)) l (works .permitted) in
     let made = applies-made t l (oneByOne (t .table) l (length l)) refl (w .shaped) (well-formed t w) (omega (arith, right)) in
-    let ok : r .number ≡ accepted = ap (λ (x : Applied). x .number) (applies-unique t l r _ a made) in
+    let ok : r .number ≡ accepted = ap (λ (x : TaskReply). x .number) (applies-unique t l r _ a made) in
     let is = a .applied ok in
     let valid = applied-valid t l (r .task) is works in
     (ok, valid, valid-checked-zero (r .task) (applied-well t l (r .task) w (works .permitted) is) valid)

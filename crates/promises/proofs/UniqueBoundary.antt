@@ -7,29 +7,27 @@ use Prim.Native.Nat.{ℕ}
 use denote.Ref.{RefT, now}
 use Rattle.boundary.proofs.AnsweringLaws.{answers-one}
 use Rattle.boundary.proofs.Called.{ZpRecordGives, zp-record-gives, ZpReadGives, zp-read-gives, ZpWriteGives, zp-write-gives, ZpCheckGives, zp-check-gives, ZpApplyGives, zp-apply-gives, ZpSolveGives, zp-solve-gives, ZpOpenGives, zp-open-gives, ZpEditGives, zp-edit-gives, ZpListGives, zp-list-gives, ZpListingGives, zp-listing-gives}
-use Rattle.boundary.specs.Answers.{Answers, changedLength, replyLength, checkedLength, recordLength, answerMost, changedWords, replyWords, checkedWords, recordWords, taskAnswer}
-use Rattle.boundary.specs.Calls.{Nothing, AnswersOutcome, HandsRecord, ReadsTask, WritesTask, ChecksRun, AppliesList, SolvesTask, OpensSession, EditsSession, ListsSession, ListsInput}
+use Rattle.boundary.specs.Answers.{Answers, changedWords, replyWords, checkedWords, recordWords, taskAnswer}
+use Rattle.boundary.specs.BoundaryCalls.{Nothing, AnswersOutcome, HandsRecord, ReadsTask, WritesTask, ChecksRun, AppliesList, SolvesTask, OpensSession, EditsSession, ListsSession, ListsInput}
 use Rattle.boundary.specs.Words.{taskIn, lentBack}
+use Rattle.change.proofs.ApplyLaws.{applies-unique}
 use Rattle.change.specs.Applying.{Applies}
-use Rattle.change.specs.declared.Applied.{Applied}
-use Rattle.listing.specs.Listing.{ListsInto}
-use Rattle.recordreader.proofs.Called.{NewGives, NextGives, ReaderBodyGives, MovedOnGives, PlaceAfterGives, place-after-gives, FirstGives, first-gives, SecondGives, second-gives}
+use Rattle.table.specs.declared.TaskReply.{TaskReply}
+use Rattle.listing.proofs.Determined.{listing-unique}
+use Rattle.recordreader.proofs.Called.{NewGives, NextGives, ReaderBodyGives, MovedOnGives, PlaceAfterGives, place-after-gives}
 use Rattle.recordreader.proofs.PlaceLaws.{file-and-place-tell}
 use Rattle.recordreader.specs.Places.{placeAfter}
 use Rattle.recordreader.specs.declared.Reader.{Reader}
 use Rattle.runcheck.specs.OpenNeeds.{checked}
 use Rattle.session.specs.Calls.{Opens, Edits, listed}
 use Rattle.session.specs.EditNumbers.{editOf}
-use Rattle.session.specs.declared.Edited.{Edited}
-use Rattle.solve.specs.Solving.{Solves}
+use Rattle.solve.proofs.SolveLaws.{solve-unique}
 use Rattle.table.specs.Outcomes.{Outcome}
-use Rattle.taskfile.specs.Reading.{ReadsFile}
+use Rattle.taskfile.proofs.Unique.{reads-unique}
 use Rattle.taskfile.specs.Records.{recordAt, bodyOf}
-use Rattle.taskfile.specs.declared.TaskRead.{TaskRead}
 use Rattle.taskwriter.specs.Writing.{written}
 use Rattle.promises.specs.Determined.{Determined}
-use Rattle.promises.proofs.OneResult.{equation, read-unique, write-unique, apply-unique, solved-unique, open-unique, edit-unique, list-unique, listing-determined}
-use Rattle.promises.proofs.Unique.{one-given}
+use Rattle.promises.proofs.Unique.{one-given, equation, open-determined, edit-determined}
 
 -- ---- the record reader
 
@@ -48,130 +46,112 @@ next-unique reader = equation (recordAt (now (reader .file)) (reader .at))
 pub reader-body-unique : (reader : Reader) (b c : RefT (List ℕ)) → ReaderBodyGives reader b → ReaderBodyGives reader c → now b ≡ now c
 reader-body-unique reader b c = equation (bodyOf (now (reader .file)) (reader .at)) (now b) (now c)
 
--- place_after, first, second
+-- place_after
 pub place-after-unique : (s : List ℕ) (at : ℕ) → Determined (PlaceAfterGives s at)
 place-after-unique s at = one-given (place-after-gives s at) (equation (placeAfter s at))
-
-pub first-record-unique : (s : List ℕ) → Determined (FirstGives s)
-first-record-unique s = one-given (first-gives s) (equation (recordAt s 0))
-
-pub second-record-unique : (s : List ℕ) → Determined (SecondGives s)
-second-record-unique s = one-given (second-gives s) (equation (recordAt s (placeAfter s 0)))
 
 -- ---- the boundary: what a call gives, o, is the number returned (.0), the answer's words afterwards (.1) and what else was lent to be
 -- written, as it is afterwards
 
 -- A call that is lent nothing but the answer's room.
-alone : (n : ℕ) (Told : List ℕ → Type 0) (answer : List ℕ) → Determined Told
-    → Determined (λ (o : ℕ × List ℕ). Answers n Nothing Told answer (o .1) (o .0))
-alone n Told answer one r q a b =
-    let told : (l m : Nothing) (u v : List ℕ) → Told u → Told v → (l ≡ m) × (u ≡ v) = λ l m u v x y. (refl, one u v x y) in
-    let same = answers-one {Lent = Nothing} n (λ _. Nothing) (λ _. Told) answer (λ l m _ _. refl) told tt tt (r .1) (q .1) (r .0) (q .0) a b in
+alone : {n : ℕ} {Due : List ℕ → Type 0} {answer : List ℕ} → Determined Due → Determined (λ (o : ℕ × List ℕ). Answers n Nothing Due answer (o .1) (o .0))
+alone {n} {Due} {answer} one r q a b =
+    let told : (l m : Nothing) (u v : List ℕ) → Due u → Due v → (l ≡ m) × (u ≡ v) = λ l m u v x y. (refl, one u v x y) in
+    let same = answers-one {Lent = Nothing} n (λ _. Nothing) (λ _. Due) answer (λ l m _ _. refl) told tt tt (r .1) (q .1) (r .0) (q .0) a b in
     λ i. (same .0 i, same .1 i)
 
 -- One that is lent something besides, l: there stands what the inner call, with the result y, leaves or, where the answer's room is too
 -- short, what was lent.
-module _ {Y L : Type 0} (Kept : L → Type 0) (Inner : Y → L → Type 0) (out : Y → List ℕ) (n : ℕ) (answer : List ℕ) (kept : Determined Kept)
+module _ {Y L : Type 0} {Kept : L → Type 0} (Inner : Y → L → Type 0) (out : Y → List ℕ) (kept : Determined Kept)
     (one : Determined (λ (o : Y × L). Inner (o .0) (o .1))) where
-  abbrev Told : L → List ℕ → Type 0
-  Told l words = (y : Y) × Inner y l × (words ≡ out y)
+  abbrev Due : L → List ℕ → Type 0
+  Due l words = (y : Y) × Inner y l × (words ≡ out y)
 
-  told-one : (l m : L) (u v : List ℕ) → Told l u → Told m v → (l ≡ m) × (u ≡ v)
+  told-one : (l m : L) (u v : List ℕ) → Due l u → Due m v → (l ≡ m) × (u ≡ v)
   told-one l m u v a b =
       let same = one (a .0, l) (b .0, m) (a .1) (b .1) in
       (ap (λ (o : Y × L). o .1) same, a .2 ∙ ap (λ (o : Y × L). out (o .0)) same ∙ sym (b .2))
 
-  lending : Determined (λ (o : ℕ × List ℕ × L). Answers n (Kept (o .2)) (Told (o .2)) answer (o .1) (o .0))
-  lending r q a b =
-      let same = answers-one n Kept Told answer kept told-one (r .2) (q .2) (r .1) (q .1) (r .0) (q .0) a b in
+  lending : {n : ℕ} {answer : List ℕ} → Determined (λ (o : ℕ × List ℕ × L). Answers n (Kept (o .2)) (Due (o .2)) answer (o .1) (o .0))
+  lending {n} {answer} r q a b =
+      let same = answers-one n Kept Due answer kept told-one (r .2) (q .2) (r .1) (q .1) (r .0) (q .0) a b in
       λ i. (same .0 i, same .1 i, same .2 i)
 
 -- One whose inner call gives an outcome: a reply, and the room.
-filling : (Inner : Outcome → Type 0) (room answer : List ℕ) → Determined Inner
+filling : {Inner : Outcome → Type 0} {room answer : List ℕ} → Determined Inner
     → Determined (λ (o : ℕ × List ℕ × List ℕ). AnswersOutcome room (o .2) Inner answer (o .1) (o .0))
-filling Inner room answer one =
-    lending (λ after. after ≡ room) (λ y after. Inner (record { reply = y; room = after })) replyWords replyLength answer (equation room)
+filling {Inner} {room} one =
+    lending (λ y after. Inner (record { reply = y; room = after })) replyWords (equation room)
     (λ r q a b. ap (λ (o : Outcome). (o .reply, o .room)) (one (record { reply = r .0; room = r .1 }) (record { reply = q .0; room = q .1 }) a b))
+
+-- One that changes the task: beside its result y the words of the task are left, as y has them.
+left-as-told : (ws : List ℕ) {left other : List ℕ} {y z : TaskReply} → y ≡ z → left ≡ lentBack ws (y .number) (y .task) → other ≡ lentBack ws (z .number) (z .task)
+    → left ≡ other
+left-as-told ws same a b = a ∙ ap (λ (y : TaskReply). lentBack ws (y .number) (y .task)) same ∙ sym b
 
 -- zp_record, zp_check: the answer's words are the definition's
 pub zp-record-unique : (file : List ℕ) (at : ℕ) (answer : List ℕ) → Determined (ZpRecordGives file at answer)
 unfolding HandsRecord
-zp-record-unique file at answer =
-    let words = recordWords (recordAt file at) in
-    one-given (zp-record-gives file at answer) (alone recordLength (λ w. w ≡ words) answer (equation words))
+zp-record-unique file at answer = one-given (zp-record-gives file at answer) (alone (equation (recordWords (recordAt file at))))
 
 pub zp-check-unique : (ws answer : List ℕ) → Determined (ZpCheckGives ws answer)
 unfolding ChecksRun
-zp-check-unique ws answer =
-    let words = checkedWords (checked (taskIn ws)) in
-    one-given (zp-check-gives ws answer) (alone checkedLength (λ w. w ≡ words) answer (equation words))
+zp-check-unique ws answer = one-given (zp-check-gives ws answer) (alone (equation (checkedWords (checked (taskIn ws)))))
 
 -- zp_read: the words of the one task that is read
 pub zp-read-unique : (file answer : List ℕ) → Determined (ZpReadGives file answer)
 unfolding ReadsTask
 zp-read-unique file answer =
-    let out : TaskRead → List ℕ = λ y. taskAnswer (y .number) (y .place) (y .task) in
-    one-given (zp-read-gives file answer)
-    (alone answerMost (λ words. (y : TaskRead) × ReadsFile file y × (words ≡ out y)) answer
-    (λ u v x y. x .2 ∙ ap out (read-unique file (x .0) (y .0) (x .1) (y .1)) ∙ sym (y .2)))
+    let out : TaskReply → List ℕ = λ y. taskAnswer (y .number) (y .place) (y .task) in
+    one-given (zp-read-gives file answer) (alone (λ u v x y. x .2 ∙ ap out (reads-unique (x .1) (y .1)) ∙ sym (y .2)))
 
 -- zp_write, zp_solve, zp_list, zp_listing: the reply's words, and the room afterwards
 pub zp-write-unique : (ws room answer : List ℕ) → Determined (ZpWriteGives ws room answer)
 unfolding WritesTask
-zp-write-unique ws room answer =
-    one-given (zp-write-gives ws room answer) (filling (λ o. o ≡ written (taskIn ws) room) room answer (write-unique (taskIn ws) room))
+zp-write-unique ws room answer = one-given (zp-write-gives ws room answer) (filling (equation (written (taskIn ws) room)))
 
 pub zp-solve-unique : (ws room answer : List ℕ) → Determined (ZpSolveGives ws room answer)
 unfolding SolvesTask
-zp-solve-unique ws room answer =
-    one-given (zp-solve-gives ws room answer) (filling (Solves (taskIn ws) room) room answer (solved-unique (taskIn ws) room))
+zp-solve-unique ws room answer = one-given (zp-solve-gives ws room answer) (filling (solve-unique (taskIn ws) room))
 
 pub zp-list-unique : (ws table room answer : List ℕ) → Determined (ZpListGives ws table room answer)
 unfolding ListsSession
-zp-list-unique ws table room answer =
-    one-given (zp-list-gives ws table room answer)
-    (filling (λ o. o ≡ listed (taskIn ws) table room) room answer (list-unique (taskIn ws) table room))
+zp-list-unique ws table room answer = one-given (zp-list-gives ws table room answer) (filling (equation (listed (taskIn ws) table room)))
 
 pub zp-listing-unique : (input room answer : List ℕ) → Determined (ZpListingGives input room answer)
 unfolding ListsInput
-zp-listing-unique input room answer =
-    one-given (zp-listing-gives input room answer) (filling (ListsInto input room) room answer (listing-determined input room))
+zp-listing-unique input room answer = one-given (zp-listing-gives input room answer) (filling (λ r q. listing-unique {input = input} {room = room}))
 
 -- zp_open: the reply's words, and the table afterwards
 pub zp-open-unique : (ws table answer : List ℕ) → Determined (ZpOpenGives ws table answer)
 unfolding OpensSession
 zp-open-unique ws table answer =
-    one-given (zp-open-gives ws table answer)
-    (lending (λ after. after ≡ table) (Opens (taskIn ws) table) replyWords replyLength answer (equation table) (open-unique (taskIn ws) table))
+    one-given (zp-open-gives ws table answer) (lending (Opens (taskIn ws) table) replyWords (equation table) (open-determined (taskIn ws) table))
 
 -- zp_apply: number and place, and the task's words afterwards
 pub zp-apply-unique : (ws list answer : List ℕ) → Determined (ZpApplyGives ws list answer)
 unfolding AppliesList
 zp-apply-unique ws list answer =
     one-given (zp-apply-gives ws list answer)
-    (lending (λ left. left ≡ ws) (λ y left. Applies (taskIn ws) list y × (left ≡ lentBack ws (y .number) (y .task)))
-    (λ (y : Applied). changedWords (y .number) (y .place)) changedLength answer (equation ws)
+    (lending (λ y left. Applies (taskIn ws) list y × (left ≡ lentBack ws (y .number) (y .task)))
+    (λ (y : TaskReply). changedWords (y .number) (y .place)) (equation ws)
     (λ r q a b.
-    let same = apply-unique (taskIn ws) list (r .0) (q .0) (a .0) (b .0) in
-    let words = a .1 ∙ ap (λ (y : Applied). lentBack ws (y .number) (y .task)) same ∙ sym (b .1) in
-    λ i. (same i, words i)))
+    let same = applies-unique (taskIn ws) list (r .0) (q .0) (a .0) (b .0) in
+    λ i. (same i, left-as-told ws same (a .1) (b .1) i)))
 
 -- zp_edit: number and place, the task's words and the table afterwards
 pub zp-edit-unique : (ws : List ℕ) (kind action fact present : ℕ) (table answer : List ℕ)
     → Determined (ZpEditGives ws kind action fact present table answer)
 unfolding EditsSession
-zp-edit-unique ws kind action fact present table answer =
+zp-edit-unique ws kind action fact present table answer r q a b =
+    let told = zp-edit-gives ws kind action fact present table answer in
     let e = editOf kind action fact present in
-    let one : Determined (λ (o : ℕ × List ℕ × (List ℕ × List ℕ)).
-    EditsSession ws (o .2 .0) kind action fact present table (o .2 .1) answer (o .1) (o .0)) =
-    lending (λ l. (l .0 ≡ ws) × (l .1 ≡ table)) (λ y l. Edits (taskIn ws) table e y (l .1) × (l .0 ≡ lentBack ws (y .number) (y .task)))
-    (λ (y : Edited). changedWords (y .number) (y .place)) changedLength answer
+    let same = lending {L = List ℕ × List ℕ} {Kept = λ l. (l .0 ≡ ws) × (l .1 ≡ table)}
+    (λ y l. Edits (taskIn ws) table e y (l .1) × (l .0 ≡ lentBack ws (y .number) (y .task)))
+    (λ (y : TaskReply). changedWords (y .number) (y .place))
     (λ l m a b. λ i. ((a .0 ∙ sym (b .0)) i, (a .1 ∙ sym (b .1)) i))
     (λ r q a b.
-    let same = edit-unique (taskIn ws) table e (r .0, r .1 .1) (q .0, q .1 .1) (a .0) (b .0) in
-    let words = a .1 ∙ ap (λ (o : Edited × List ℕ). lentBack ws (o .0 .number) (o .0 .task)) same ∙ sym (b .1) in
-    λ i. (same i .0, (words i, same i .1))) in
-    λ r q a b.
-    let told = zp-edit-gives ws kind action fact present table answer in
-    let same = one (r .0, r .1, (r .2, r .3)) (q .0, q .1, (q .2, q .3)) (told r a) (told q b) in
+    let same = edit-determined (taskIn ws) table e (r .0, r .1 .1) (q .0, q .1 .1) (a .0) (b .0) in
+    λ i. (same i .0, (left-as-told ws (ap (λ (o : TaskReply × List ℕ). o .0) same) (a .1) (b .1) i, same i .1)))
+    (r .0, r .1, (r .2, r .3)) (q .0, q .1, (q .2, q .3)) (told r a) (told q b) in
     λ i. (same i .0, same i .1, same i .2 .0, same i .2 .1)

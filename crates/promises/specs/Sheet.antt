@@ -14,7 +14,7 @@ use Rattle.table.specs.Outcomes.{refused, given}
 use Rattle.runcheck.specs.OpenNeeds.{openNeeds, refusedCheck, checked}
 use Rattle.runcheck.specs.declared.Checked.{Checked}
 use Rattle.session.specs.Calls.{Opens, Edits, listed}
-use Rattle.session.specs.declared.Edited.{Edited}
+use Rattle.table.specs.declared.TaskReply.{TaskReply}
 use Rattle.solve.specs.Solving.{Solves}
 use Rattle.solve.specs.Tables.{rowAt}
 use Rattle.table.specs.Bench.{task, listingTask, limited, strayTask, goalsAtStart, goalOutOfReach, addsAndDeletes, deletesTheGoal, needsLastFact, pairs}
@@ -25,14 +25,13 @@ use Rattle.table.specs.declared.Reply.{Reply}
 use Rattle.table.specs.declared.Task.{Task}
 use Rattle.taskfile.specs.BenchFiles.{listingFile, withoutEnd, byteAppended, strayStep}
 use Rattle.taskfile.specs.Reading.{ReadsFile, refusedRead, acceptedRead}
-use Rattle.taskfile.specs.declared.TaskRead.{TaskRead}
 use Rattle.promises.specs.Determined.{Only}
 
 infixr 20 _and_
 -- What a row says of a call.
 pub data BenchRow : Type 0 where
   -- a file of so many bytes is read so
-  reads : List ℕ → ℕ → TaskRead → BenchRow
+  reads : List ℕ → ℕ → TaskReply → BenchRow
   -- the listing of a file is this text, in whatever room is lent
   lists : List ℕ → String → BenchRow
   -- the run check of a task gives this
@@ -47,21 +46,21 @@ pub data BenchRow : Type 0 where
   edits : Task → Edit → List ℕ → ℕ → BenchRow
 
 -- The row holds: the call's contract allows what the row says, and nothing else. For an edit: whatever opening and the edit may give.
-abbrev pub Holds : BenchRow → Type 0
-Holds (reads file bytes r) = (length file ≡ bytes) × Only (ReadsFile file) r
-Holds (lists file text) = (room : List ℕ) → Only (ListsInto file room) (given (bytesOf text) room)
-Holds (checks t c) = Only (λ (r : Checked). r ≡ checked t) c
-Holds (solves t l) = (room : List ℕ) → Only (Solves t room) (given l room)
-Holds (refuses t n) = (room : List ℕ) → Only (Solves t room) (refused n room)
-Holds (works-later t m l) = WorksFor t m × (m ≼ l → ⊥)
-Holds (edits t e l kept) =
-    (s₀ s after : List ℕ) (r₀ : Reply) (r : Edited) → Opens t s₀ r₀ s → r₀ .number ≡ 0 → Edits t s e r after
+abbrev pub Stands : BenchRow → Type 0
+Stands (reads file bytes r) = (length file ≡ bytes) × Only (ReadsFile file) r
+Stands (lists file text) = (room : List ℕ) → Only (ListsInto file room) (given (bytesOf text) room)
+Stands (checks t c) = Only (λ (r : Checked). r ≡ checked t) c
+Stands (solves t l) = (room : List ℕ) → Only (Solves t room) (given l room)
+Stands (refuses t n) = (room : List ℕ) → Only (Solves t room) (refused n room)
+Stands (works-later t m l) = WorksFor t m × (m ≼ l → ⊥)
+Stands (edits t e l kept) =
+    (s₀ s after : List ℕ) (r₀ : Reply) (r : TaskReply) → Opens t s₀ r₀ s → r₀ .number ≡ 0 → Edits t s e r after
     → (r .number ≡ 0) × ((room : List ℕ) → listed (r .task) after room ≡ given l room) × (rowAt after kept ≡ rowAt s kept)
 
 -- Every row of a list holds.
 pub data AllHold : List BenchRow → Type 0 where
   all : AllHold []
-  _and_ : {row : BenchRow} {rows : List BenchRow} → Holds row → AllHold rows → AllHold (row ∷ rows)
+  _and_ : {row : BenchRow} {rows : List BenchRow} → Stands row → AllHold rows → AllHold (row ∷ rows)
 
 -- ---- what the rows give
 

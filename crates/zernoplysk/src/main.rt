@@ -1,4 +1,5 @@
 // The program: reads a task file from standard input and writes its listing (document 01, "The listing").
+use libc::STDERR_FILENO;
 use libc::STDIN_FILENO;
 use libc::STDOUT_FILENO;
 use listing::LONGEST_TEXT;
@@ -28,10 +29,29 @@ fn listed(input: &[u8; MOST_INPUT], got: usize, text: &mut [u8; LONGEST_TEXT]) -
     told.length
 }
 
+// Whether standard input ended after so many bytes, or gave as many as are looked at. `read_full` stops alike at the end and at a
+// read that fails; so where it stopped early, one read more has to say that there is nothing more.
+fn is_whole(got: usize) -> bool {
+    if got == MOST_INPUT {
+        return true;
+    }
+    let mut next = [0u8; 1];
+    libc::read(STDIN_FILENO, &mut next) == 0
+}
+
 fn main() {
     let mut input = [0u8; MOST_INPUT];
     let got = io::read_full(STDIN_FILENO, &mut input);
+    if !is_whole(got) {
+        io::write_all(STDERR_FILENO, b"zernoplysk: standard input can't be read\n");
+        return;
+    }
     let mut text = [0u8; LONGEST_TEXT];
     let length = listed(&input, got, &mut text);
-    io::write_all(STDOUT_FILENO, &text[..length]);
+    if !io::write_all(STDOUT_FILENO, &text[..length]) {
+        io::write_all(
+            STDERR_FILENO,
+            b"zernoplysk: standard output can't be written\n",
+        );
+    }
 }

@@ -4,7 +4,7 @@ use Rattle.boundary.proofs.AnsweringLaws.{answers-short, answers-given}
 use mathlib.Core.Path.{ap, _∙_}
 use Rattle.runcheck.specs.OpenNeeds.{checked}
 use Rattle.boundary.specs.Answers.{checkedWords}
-use Rattle.boundary.specs.Calls.{ChecksRun}
+use Rattle.boundary.specs.BoundaryCalls.{ChecksRun}
 use borrow.Author.Needs.{needs}
 use Rattle.boundary.proofs.zp_check.Statement.{statement}
 use Rattle.boundary.proofs.zp_check.Tie as tie

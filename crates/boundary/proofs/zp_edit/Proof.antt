@@ -3,7 +3,7 @@ use borrow.Author.Needs.{needs}
 use native.Mathlib.Omega.{arith}
 use mathlib.Core.Path.{refl}
 use Rattle.boundary.specs.Answers.{changedWords}
-use Rattle.boundary.specs.Calls.{EditsSession}
+use Rattle.boundary.specs.BoundaryCalls.{EditsSession}
 use Rattle.boundary.proofs.AnsweringLaws.{answers-short, answers-given}
 use Rattle.boundary.proofs.LendingLaws.{edited-length}
 use Rattle.boundary.proofs.zp_edit.Statement.{statement}
@@ -45,7 +45,8 @@ unfolding EditsSession
 returns-2 c =
     let y = c .before .before in
     let b = y .before .before .before .before in
-    let z = b .before .before .before .before .before in
+    let lent = b .before .before in
+    let z = lent .before .before .before in
     let e = z .before .before in
     let done = z .edit .result in
     answers-given (changedWords (done .number) (done .place)) (omega (arith, e .before .before .before .if1 .left))

@@ -3,7 +3,7 @@ use native.Mathlib.Omega.{arith}
 use Rattle.boundary.proofs.AnsweringLaws.{answers-short, answers-given}
 use mathlib.Core.Path.{refl}
 use Rattle.boundary.specs.Answers.{taskAnswer}
-use Rattle.boundary.specs.Calls.{ReadsTask}
+use Rattle.boundary.specs.BoundaryCalls.{ReadsTask}
 use borrow.Author.Needs.{needs}
 use Rattle.boundary.proofs.zp_read.Statement.{statement}
 use Rattle.boundary.proofs.zp_read.Tie as tie

@@ -3,7 +3,7 @@ use native.Mathlib.Omega.{arith}
 use Rattle.boundary.proofs.AnsweringLaws.{answers-short, answers-given}
 use mathlib.Core.Path.{ap}
 use Rattle.boundary.specs.Answers.{recordWords}
-use Rattle.boundary.specs.Calls.{HandsRecord}
+use Rattle.boundary.specs.BoundaryCalls.{HandsRecord}
 use borrow.Author.Needs.{needs}
 use Rattle.boundary.proofs.zp_record.Statement.{statement}
 use Rattle.boundary.proofs.zp_record.Tie as tie

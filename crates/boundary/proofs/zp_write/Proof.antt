@@ -3,7 +3,7 @@ use native.Mathlib.Omega.{arith}
 use Rattle.boundary.proofs.AnsweringLaws.{answers-short, answers-given}
 use mathlib.Core.Path.{refl}
 use Rattle.boundary.specs.Answers.{replyWords}
-use Rattle.boundary.specs.Calls.{WritesTask}
+use Rattle.boundary.specs.BoundaryCalls.{WritesTask}
 use borrow.Author.Needs.{needs}
 use Rattle.boundary.proofs.zp_write.Statement.{statement}
 use Rattle.boundary.proofs.zp_write.Tie as tie

@@ -20,17 +20,23 @@ solve-requires c κs = search needs
 slice-aggregate-tell : tie.Need-slice-aggregate-tell
 slice-aggregate-tell c = search needs
 
+-- the answer's room was lent in between
+abbrev solved : tie.After-tell-arg → tie.After-solve
+solved c = c .before .before .before
+
 tell-requires : tie.Need-tell-requires
-tell-requires c κs = (omega (arith, solved-fits (c .before .before .before .solve .ensures)), search needs)
+tell-requires c κs = (omega (arith, solved-fits (solved c .solve .ensures)), search needs)
 
 same-length : tie.Need-same-length
 same-length c = search needs
 
 returns : tie.Need-returns
 returns c =
-    let z = c .before .before .before .before .before .before .before .before in
+    let told = c .before .before in
+    let answer = solved (told .before) in
+    let z = answer .before .before in
     let y = z .before .before in
-    listed (y .read .result) (z .check-run .result) (y .read .ensures) (z .check-run .ensures) (c .before .before .before .before .before .before .solve .ensures) (c .before .before .tell .ensures)
+    listed (y .read .result) (z .check-run .result) (y .read .ensures) (z .check-run .ensures) (answer .solve .ensures) (told .tell .ensures)
 
 pub listing-spec : {M : Type 1} → statement M
 listing-spec =

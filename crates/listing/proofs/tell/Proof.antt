@@ -11,12 +11,15 @@ use Rattle.listing.proofs.tell.Tie as tie
 length-of-requires : tie.Need-length-of-requires
 length-of-requires c κs = search needs
 
+abbrev start : tie.After-length-of → tie.Start
+start c = c .before .before .before
+
 refusal-requires : tie.Need-refusal-requires
 refusal-requires c κs = search needs
 
 returns : tie.Need-returns
 returns c =
-    let a = c .before .before .before .before .before .args in
+    let a = start (c .before .before) .args in
     refused-told roomTooShort (c .refusal .result) (a .room .now) _ (c .refusal .ensures)
     (given-short (textOf (a .read) (a .found) (record { reply = a .solved; room = a .list .now })) (a .room .now) (omega arith))
 
@@ -28,8 +31,9 @@ same-length c = search needs
 
 returns-2 : tie.Need-returns-2
 returns-2 c =
-    let a = c .before .before .before .before .before .before .before .before .args in
-    told-whole (textOf (a .read) (a .found) (record { reply = a .solved; room = a .list .now })) (a .room .now) _ _ (c .before .before .whole .ensures)
+    let d = c .before .before in
+    let a = start (d .before .before .before) .args in
+    told-whole (textOf (a .read) (a .found) (record { reply = a .solved; room = a .list .now })) (a .room .now) _ _ (d .whole .ensures)
     (omega arith)
 
 pub tell-spec : {M : Type 1} → statement M

@@ -29,9 +29,11 @@ same-length-2 c = search needs
 
 returns-2 : tie.Need-returns-2
 returns-2 c =
-    let a = c .before .before .before .before .before .before .before .args in
-    subst (λ (b : List ℕ). ListsInto b (a .room .now) (record { reply = c .before .before .listing2 .result; room = c .before .before .listing2 .last .1 .0 }))
-    (sym (take-all (a .got) (a .input .now) (omega arith))) (c .before .before .listing2 .ensures)
+    let told = c .before .before in
+    let tested = told .before .before in
+    let a = tested .before .before .before .args in
+    subst (λ (b : List ℕ). ListsInto b (a .room .now) (record { reply = told .listing2 .result; room = told .listing2 .last .1 .0 }))
+    (sym (take-all (a .got) (a .input .now) (omega arith))) (told .listing2 .ensures)
 
 pub first-listed-spec : {M : Type 1} → statement M
 first-listed-spec =

@@ -29,7 +29,8 @@ put-table-requires c κs = search needs
 put-run-requires : tie.Need-put-run-requires
 put-run-requires c κs =
     let p = c .before .before .before in
-    omega (arith, p .put-table .ensures .next-is, whole (p .before .before .before .before .before .before))
+    let ok = p .before .before .before .before in
+    omega (arith, p .put-table .ensures .next-is, whole (ok .before .before))
 
 same-length : tie.Need-same-length
 same-length c = search needs

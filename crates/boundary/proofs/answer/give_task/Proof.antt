@@ -12,7 +12,9 @@ use Rattle.boundary.proofs.answer.give_task.Statement.{statement}
 use Rattle.boundary.proofs.answer.give_task.Tie as tie
 
 abbrev entry : tie.After-put-two → tie.Start
-entry c = c .before .before .before .before .before
+entry c =
+    let lent = c .before .before in
+    lent .before .before .before
 
 shaped : (c : tie.Start) → Shaped (c .args .task)
 shaped c = record { needs = search needs; adds = search needs; deletes = search needs; steps = search needs }

@@ -34,9 +34,10 @@ loop-less c = omega arith
 
 loop-again : tie.Need-loop-again Inv-loop μ-loop
 loop-again c =
-    let z = c .before .before .before .before .before in
-    one-more (z .before .loop .inv) (z .loop-test .taken)
-    (rw (c .before .before .before .wide .ensures) at (c .before .before .put .ensures))
+    let d = c .before .before in
+    let wide = d .before in
+    let z = wide .before .before in
+    one-more (z .before .loop .inv) (z .loop-test .taken) (rw (wide .wide .ensures) at (d .put .ensures))
 
 same-length : tie.Need-same-length Inv-loop μ-loop
 same-length c = length-kept (c .before .loop .inv)

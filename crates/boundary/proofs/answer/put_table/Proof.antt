@@ -10,7 +10,9 @@ use Rattle.boundary.proofs.answer.put_table.Statement.{statement}
 use Rattle.boundary.proofs.answer.put_table.Tie as tie
 
 abbrev entry : tie.After-put-three → tie.Start
-entry c = c .before .before .before .before .before .before
+entry c =
+    let lent = c .before .before .before in
+    lent .before .before .before
 
 whole : (c : tie.Start) → (length (c .args .t .needs) ≡ maxActions) × (length (c .args .t .adds) ≡ maxActions)
 whole c = (search needs, search needs)

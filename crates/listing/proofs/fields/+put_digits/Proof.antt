@@ -44,7 +44,8 @@ put-digits-digit-requires t c κs = search needs
 
 put-digits-put-requires : (t : ℕ) → put-digits-lts.Need-put-requires (C t) (put-digits-at t) put-digits.Post
 put-digits-put-requires t c κs =
-    let a = c .before .before .before .before .before .args in
+    let last = c .before .before in
+    let a = last .before .before .before .args in
     omega (arith, ap length (digits-last (a .most) (a .n) (omega arith) (omega arith)))
 
 put-digits-same-length : (t : ℕ) → put-digits-lts.Need-same-length (C t) (put-digits-at t) put-digits.Post
@@ -52,8 +53,8 @@ put-digits-same-length t c = search needs
 
 put-digits-returns-2 : (t : ℕ) → put-digits-lts.Need-returns-2 (C t) (put-digits-at t) put-digits.Post
 put-digits-returns-2 t c =
-    let z = c .before .before .before in
-    last-placed _ _ (omega arith) (omega arith) (z .digit .ensures) (c .before .before .put .ensures)
+    let last = c .before .before in
+    last-placed _ _ (omega arith) (omega arith) (last .before .digit .ensures) (last .put .ensures)
 
 put-digits-sub-put-digits : (t : ℕ) → put-digits-lts.Need-sub-put-digits (C t) (put-digits-at t) put-digits.Post
 put-digits-sub-put-digits t c = search needs
@@ -69,7 +70,8 @@ put-digits-digit-requires-2 t c κs = search needs
 put-digits-put-requires-2 : (t : ℕ) → put-digits-lts.Need-put-requires-2 (C t) (put-digits-at t) put-digits.Post
 put-digits-put-requires-2 t c κs =
     let z = c .before .before .before .before in
-    let a = z .before .before .before .before .before .args in
+    let more = z .before .before in
+    let a = more .before .before .before .args in
     omega (arith, z .put-digits .ensures .next-is, more-length (a .most) (a .n) (omega arith) (omega arith))
 
 put-digits-same-length-2 : (t : ℕ) → put-digits-lts.Need-same-length-2 (C t) (put-digits-at t) put-digits.Post
@@ -77,8 +79,10 @@ put-digits-same-length-2 t c = search needs
 
 put-digits-returns-3 : (t : ℕ) → put-digits-lts.Need-returns-3 (C t) (put-digits-at t) put-digits.Post
 put-digits-returns-3 t c =
-    let z = c .before .before .before in
-    more-placed _ _ (omega arith) (omega arith) (z .before .before .before .before .put-digits .ensures) (z .digit2 .ensures) (c .before .before .put2 .ensures)
+    let last = c .before .before in
+    let z = last .before in
+    let more = z .before .before .before .before in
+    more-placed _ _ (omega arith) (omega arith) (more .put-digits .ensures) (z .digit2 .ensures) (last .put2 .ensures)
 
 pub +put-digits-spec : {M : Type 1} → statement M
 +put-digits-spec = close μ-put-digits λ t. put-digits-lts.spec (C t)

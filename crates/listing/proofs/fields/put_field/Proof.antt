@@ -14,7 +14,10 @@ same-length : tie.Need-same-length
 same-length c = search needs
 
 returns : tie.Need-returns
-returns c = placed-more (c .before .before .before .before .before .before .put .ensures) (c .before .before .put-digits .ensures)
+returns c =
+    let digits = c .before .before in
+    let space = digits .before .before .before .before in
+    placed-more (space .put .ensures) (digits .put-digits .ensures)
 
 pub put-field-spec : {M : Type 1} → statement M
 put-field-spec = tie.close (tie.spec put-requires put-digits-requires same-length returns)

@@ -27,8 +27,12 @@ mul-put-field c = search needs
 shared-slice-read-put-field : tie.Need-shared-slice-read-put-field Inv-loop μ-loop
 shared-slice-read-put-field c = search needs
 
+-- in a turn of the loop, past its test and the reading of the number
+abbrev turn : tie.After-shared-slice-known2 Inv-loop μ-loop → tie.At-loop Inv-loop μ-loop
+turn c = c .before .before .before
+
 put-field-requires : tie.Need-put-field-requires Inv-loop μ-loop
-put-field-requires c κs = next-fits (c .before .before .before .loop .inv) (search needs)
+put-field-requires c κs = next-fits (turn c .loop .inv) (search needs)
 
 add-i : tie.Need-add-i Inv-loop μ-loop
 add-i c = omega arith
@@ -38,15 +42,17 @@ loop-less c = omega arith
 
 loop-again : tie.Need-loop-again Inv-loop μ-loop
 loop-again c =
-    let z = c .before .before .before .before .before in
-    one-more (z .before .loop .inv) (search needs) (c .before .before .put-field .ensures)
+    let d = c .before .before in
+    one-more (turn (d .before) .loop .inv) (search needs) (d .put-field .ensures)
 
 same-length : tie.Need-same-length Inv-loop μ-loop
 same-length c = length-kept (c .before .loop .inv)
 
 returns : tie.Need-returns Inv-loop μ-loop
 returns c =
-    rw (each-gathered field (c .before .before .before .before .args .numbers .now)) at (all-placed (c .before .loop .inv) (search needs))
+    let at = c .before in
+    let s = at .before .before .before in
+    rw (each-gathered field (s .args .numbers .now)) at (all-placed (at .loop .inv) (search needs))
 
 pub put-fields-spec : {M : Type 1} → statement M
 put-fields-spec =

@@ -5,19 +5,29 @@ use borrow.Author.Needs.{needs}
 use Rattle.listing.proofs.fields.put_line.Statement.{statement}
 use Rattle.listing.proofs.fields.put_line.Tie as tie
 
+-- what stands before each call: the call before it, and the start
+abbrev start : tie.After-put-word-arg → tie.Start
+start c = c .before .before .before .before
+
+abbrev worded : tie.After-put-fields-arg → tie.After-put-word
+worded c = c .before .before .before
+
+abbrev fielded : tie.After-put-arg → tie.After-put-fields
+fielded c = c .before .before .before
+
 put-word-requires : tie.Need-put-word-requires
 put-word-requires c κs =
-    let a = c .before .before .before .before .args in
+    let a = start c .args in
     omega (arith, line-length (a .word .now) (a .numbers .now))
 
 put-fields-requires : tie.Need-put-fields-requires
 put-fields-requires c κs =
-    let a = c .before .before .before .before .before .before .before .before .args in
+    let a = start (worded c .before) .args in
     omega (arith, line-length (a .word .now) (a .numbers .now))
 
 put-requires : tie.Need-put-requires
 put-requires c κs =
-    let a = c .before .before .before .before .before .before .before .before .before .before .before .before .args in
+    let a = start (worded (fielded c .before) .before) .args in
     omega (arith, line-length (a .word .now) (a .numbers .now))
 
 same-length : tie.Need-same-length
@@ -26,9 +36,9 @@ same-length c = search needs
 returns : tie.Need-returns
 returns c =
     let z = c .before .before in
-    let y = z .before .before .before .before in
-    let x = y .before .before .before .before in
-    line-placed (x .before .before .before .before .before .args .numbers .now) (x .put-word .ensures) (y .put-fields .ensures) (z .put .ensures)
+    let y = fielded (z .before) in
+    let x = worded (y .before) in
+    line-placed (start (x .before) .args .numbers .now) (x .put-word .ensures) (y .put-fields .ensures) (z .put .ensures)
 
 pub put-line-spec : {M : Type 1} → statement M
 put-line-spec =

@@ -11,17 +11,29 @@ slice-aggregate-put-line c = search needs
 slice-aggregate-put-line-2 : tie.Need-slice-aggregate-put-line-2
 slice-aggregate-put-line-2 c = search needs
 
+-- what stands before each call: the call before it, and the start
+abbrev start : tie.After-count → tie.Start
+start c =
+    let lent = c .before .before in
+    lent .before .before .before
+
+abbrev counted : tie.After-repair-lines-arg → tie.After-put-line
+counted c = c .before .before .before
+
+abbrev repaired : tie.After-put-word-arg2 → tie.After-repair-lines
+repaired c = c .before .before .before .before
+
 put-line-requires : tie.Need-put-line-requires
-put-line-requires c κs = omega (arith, answer-length (c .before .before .before .before .before .args .list .now))
+put-line-requires c κs = omega (arith, answer-length (start c .args .list .now))
 
 repair-lines-requires : tie.Need-repair-lines-requires
-repair-lines-requires c κs = omega (arith, answer-length (c .before .before .before .before .before .before .before .before .before .args .list .now))
+repair-lines-requires c κs = omega (arith, answer-length (start (counted c .before) .args .list .now))
 
 slice-aggregate-put-word : tie.Need-slice-aggregate-put-word
 slice-aggregate-put-word c = search needs
 
 put-word-requires : tie.Need-put-word-requires
-put-word-requires c κs = omega (arith, answer-length (c .before .before .before .before .before .before .before .before .before .before .before .before .before .before .args .list .now))
+put-word-requires c κs = omega (arith, answer-length (start (counted (repaired c .before) .before) .args .list .now))
 
 same-length : tie.Need-same-length
 same-length c = search needs
@@ -29,9 +41,9 @@ same-length c = search needs
 returns : tie.Need-returns
 returns c =
     let z = c .before .before in
-    let y = z .before .before .before .before .before in
-    let x = y .before .before .before .before in
-    answer-placed (x .before .before .before .before .before .before .args .list .now) (x .put-line .ensures) (y .repair-lines .ensures) (z .put-word .ensures)
+    let y = repaired (z .before) in
+    let x = counted (y .before) in
+    answer-placed (start (x .before) .args .list .now) (x .put-line .ensures) (y .repair-lines .ensures) (z .put-word .ensures)
 
 pub answer-lines-spec : {M : Type 1} → statement M
 answer-lines-spec =

@@ -15,9 +15,23 @@ slice-aggregate-put-line c = search needs
 slice-aggregate-put-line-2 : tie.Need-slice-aggregate-put-line-2
 slice-aggregate-put-line-2 c = search needs
 
+-- what each of the three lines knows of the number: the repair that it names
+abbrev named : tie.After-cell → tie.After-of
+named c = c .before .before .before .before
+
+abbrev named2 : tie.After-cell2 → tie.After-of
+named2 c =
+    let then = c .before .before .before in
+    then .before .before
+
+abbrev named3 : tie.After-cell3 → tie.After-of
+named3 c =
+    let else = c .before .before .before in
+    else .before .before
+
 put-line-requires : tie.Need-put-line-requires
 put-line-requires c κs =
-    let z = c .before .before .before .before in
+    let z = named c in
     let k = word-delete (z .of .result .kind) (omega arith) in
     omega (arith, repair-length (z .before .before .args .number) (z .of .result) (z .of .ensures) dropDeleteWord k)
 
@@ -26,9 +40,10 @@ same-length c = search needs
 
 returns : tie.Need-returns
 returns c =
-    let z = c .before .before .before .before .before .before .before in
+    let d = c .before .before in
+    let z = named (d .before) in
     let k = word-delete (z .of .result .kind) (omega arith) in
-    repair-placed (z .before .before .args .number) (z .of .result) (z .of .ensures) dropDeleteWord k (c .before .before .put-line .ensures)
+    repair-placed (z .before .before .args .number) (z .of .result) (z .of .ensures) dropDeleteWord k (d .put-line .ensures)
 
 slice-aggregate-put-line-3 : tie.Need-slice-aggregate-put-line-3
 slice-aggregate-put-line-3 c = search needs
@@ -38,7 +53,7 @@ slice-aggregate-put-line-4 c = search needs
 
 put-line-requires-2 : tie.Need-put-line-requires-2
 put-line-requires-2 c κs =
-    let z = c .before .before .before .before .before in
+    let z = named2 c in
     let k = word-add (z .of .result .kind) (omega arith) in
     omega (arith, repair-length (z .before .before .args .number) (z .of .result) (z .of .ensures) addEffectWord k)
 
@@ -47,9 +62,10 @@ same-length-2 c = search needs
 
 returns-2 : tie.Need-returns-2
 returns-2 c =
-    let z = c .before .before .before .before .before .before .before .before in
+    let d = c .before .before in
+    let z = named2 (d .before) in
     let k = word-add (z .of .result .kind) (omega arith) in
-    repair-placed (z .before .before .args .number) (z .of .result) (z .of .ensures) addEffectWord k (c .before .before .put-line2 .ensures)
+    repair-placed (z .before .before .args .number) (z .of .result) (z .of .ensures) addEffectWord k (d .put-line2 .ensures)
 
 slice-aggregate-put-line-5 : tie.Need-slice-aggregate-put-line-5
 slice-aggregate-put-line-5 c = search needs
@@ -59,7 +75,7 @@ slice-aggregate-put-line-6 c = search needs
 
 put-line-requires-3 : tie.Need-put-line-requires-3
 put-line-requires-3 c κs =
-    let z = c .before .before .before .before .before in
+    let z = named3 c in
     let k = word-need (z .of .result .kind) (omega arith) in
     omega (arith, repair-length (z .before .before .args .number) (z .of .result) (z .of .ensures) dropNeedWord k)
 
@@ -68,9 +84,10 @@ same-length-3 c = search needs
 
 returns-3 : tie.Need-returns-3
 returns-3 c =
-    let z = c .before .before .before .before .before .before .before .before in
+    let d = c .before .before in
+    let z = named3 (d .before) in
     let k = word-need (z .of .result .kind) (omega arith) in
-    repair-placed (z .before .before .args .number) (z .of .result) (z .of .ensures) dropNeedWord k (c .before .before .put-line3 .ensures)
+    repair-placed (z .before .before .args .number) (z .of .result) (z .of .ensures) dropNeedWord k (d .put-line3 .ensures)
 
 pub repair-line-spec : {M : Type 1} → statement M
 repair-line-spec =

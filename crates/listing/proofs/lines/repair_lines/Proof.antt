@@ -27,11 +27,15 @@ mul-repair-line c = search needs
 shared-slice-read-repair-line : tie.Need-shared-slice-read-repair-line Inv-loop μ-loop
 shared-slice-read-repair-line c = search needs
 
+-- in a turn of the loop, past its test and the reading of the number
+abbrev turn : tie.After-shared-slice-known2 Inv-loop μ-loop → tie.At-loop Inv-loop μ-loop
+turn c = c .before .before .before
+
 cast-repair-line : tie.Need-cast-repair-line Inv-loop μ-loop
-cast-repair-line c = omega (arith, c .shared-slice-known2 .given (c .before .before .before .loop .i))
+cast-repair-line c = omega (arith, c .shared-slice-known2 .given (turn c .loop .i))
 
 repair-line-requires : tie.Need-repair-line-requires Inv-loop μ-loop
-repair-line-requires c κs = next-fits (c .before .before .before .loop .inv) (search needs)
+repair-line-requires c κs = next-fits (turn c .loop .inv) (search needs)
 
 add-i : tie.Need-add-i Inv-loop μ-loop
 add-i c = omega arith
@@ -41,15 +45,17 @@ loop-less c = omega arith
 
 loop-again : tie.Need-loop-again Inv-loop μ-loop
 loop-again c =
-    let z = c .before .before .before .before .before in
-    one-more (z .before .loop .inv) (search needs) (c .before .before .repair-line .ensures)
+    let d = c .before .before in
+    one-more (turn (d .before) .loop .inv) (search needs) (d .repair-line .ensures)
 
 same-length : tie.Need-same-length Inv-loop μ-loop
 same-length c = length-kept (c .before .loop .inv)
 
 returns : tie.Need-returns Inv-loop μ-loop
 returns c =
-    rw (each-gathered repairLine (c .before .before .before .before .args .list .now)) at (all-placed (c .before .loop .inv) (search needs))
+    let at = c .before in
+    let s = at .before .before .before in
+    rw (each-gathered repairLine (s .args .list .now)) at (all-placed (at .loop .inv) (search needs))
 
 pub repair-lines-spec : {M : Type 1} → statement M
 repair-lines-spec =

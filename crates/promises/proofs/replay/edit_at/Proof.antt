@@ -36,7 +36,9 @@ shared-slice-read-fact : tie.Need-shared-slice-read-fact
 shared-slice-read-fact c = search needs
 
 cast-fact : tie.Need-cast-fact
-cast-fact c = omega (arith, c .shared-slice-known4 .given (c .before .before .before .before .args .at + 2))
+cast-fact c =
+    let action-read = c .before in
+    omega (arith, c .shared-slice-known4 .given (action-read .before .before .before .args .at + 2))
 
 add-present : tie.Need-add-present
 add-present c = search needs
@@ -48,7 +50,9 @@ shared-slice-read-present : tie.Need-shared-slice-read-present
 shared-slice-read-present c = search needs
 
 cast-present : tie.Need-cast-present
-cast-present c = omega (arith, c .shared-slice-known5 .given (c .before .before .before .before .before .args .at + 3))
+cast-present c =
+    let action-read = c .before .before in
+    omega (arith, c .shared-slice-known5 .given (action-read .before .before .before .args .at + 3))
 
 edit-of-requires : tie.Need-edit-of-requires
 edit-of-requires c κs = search needs

@@ -31,23 +31,24 @@ edit-requires c κs = search needs
 
 add-i : tie.Need-add-i Inv-loop μ-loop
 add-i c =
-    let at = c .before .before .before .before .before .before in
-    omega (arith, at)
+    let read = c .before .before .before .before in
+    omega (arith, read .before .before)
 
 loop-less : tie.Need-loop-less Inv-loop μ-loop
 loop-less c =
-    let at = c .before .before .before .before .before .before in
-    omega (arith, at)
+    let read = c .before .before .before .before in
+    omega (arith, read .before .before)
 
 loop-again : tie.Need-loop-again Inv-loop μ-loop
 loop-again c =
-    let done = c .before .before .before .edit in
-    let d = c .before .before .before .before .before in
-    let at = d .before .before in
-    let a = at .before .before .before .args in (
+    let made = c .before .before .before in
+    let done = made .edit in
+    let read = made .before .before in
+    let turn = read .before .before in
+    let a = turn .before .before .before .args in (
       refl,
-      replayed-more (a .t) (a .table .now) (a .edits .now) (at .loop .i) (at .loop .task) (at .loop .table) (d .edit-at .result) (done .result)
-          (done .last .1 .0) (omega (arith, d .before .loop-test .taken)) (at .loop .inv .1) (d .edit-at .ensures) (done .ensures),
+      replayed-more (a .t) (a .table .now) (a .edits .now) (turn .loop .i) (turn .loop .task) (turn .loop .table) (read .edit-at .result) (done .result)
+          (done .last .1 .0) (omega (arith, read .before .loop-test .taken)) (turn .loop .inv .1) (read .edit-at .ensures) (done .ensures),
     )
 
 same-length : tie.Need-same-length Inv-loop μ-loop

@@ -3,18 +3,16 @@ use mathlib.Core.List.{List}
 use mathlib.Core.Path.{_≡_}
 use Prim.Native.Nat.{ℕ}
 use Rattle.change.specs.Applying.{Applies}
-use Rattle.change.specs.declared.Applied.{Applied}
+use Rattle.table.specs.declared.TaskReply.{TaskReply}
 use Rattle.listing.specs.Listing.{ListsInto}
 use Rattle.runcheck.specs.OpenNeeds.{checked}
 use Rattle.session.specs.Calls.{Opens, Edits, listed}
 use Rattle.session.specs.EditNumbers.{editOf}
-use Rattle.session.specs.declared.Edited.{Edited}
 use Rattle.solve.specs.Solving.{Solves}
 use Rattle.table.specs.Outcomes.{Outcome}
 use Rattle.table.specs.declared.Reply.{Reply}
 use Rattle.taskfile.specs.Reading.{ReadsFile}
 use Rattle.taskfile.specs.Records.{recordAt}
-use Rattle.taskfile.specs.declared.TaskRead.{TaskRead}
 use Rattle.taskwriter.specs.Writing.{written}
 use Rattle.boundary.specs.Words.{taskIn, lentBack}
 use Rattle.boundary.specs.Answers.{Answers, changedLength, replyLength, checkedLength, recordLength, answerMost, changedWords, replyWords, checkedWords, recordWords, taskAnswer}
@@ -38,7 +36,7 @@ HandsRecord file at = Answers recordLength Nothing (λ words. words ≡ recordWo
 unfoldable pub ReadsTask : List ℕ → List ℕ → List ℕ → ℕ → Type 0
 ReadsTask file =
     Answers answerMost Nothing
-    (λ words. (y : TaskRead) × ReadsFile file y × (words ≡ taskAnswer (y .number) (y .place) (y .task)))
+    (λ words. (y : TaskReply) × ReadsFile file y × (words ≡ taskAnswer (y .number) (y .place) (y .task)))
 
 unfoldable pub WritesTask : List ℕ → List ℕ → List ℕ → List ℕ → List ℕ → ℕ → Type 0
 WritesTask ws room after = AnswersOutcome room after (λ o. o ≡ written (taskIn ws) room)
@@ -51,7 +49,7 @@ unfoldable pub AppliesList : List ℕ → List ℕ → List ℕ → List ℕ →
 AppliesList ws left list =
     Answers changedLength (left ≡ ws)
     (λ words.
-    (y : Applied) × (Applies (taskIn ws) list y × (left ≡ lentBack ws (y .number) (y .task))) ×
+    (y : TaskReply) × (Applies (taskIn ws) list y × (left ≡ lentBack ws (y .number) (y .task))) ×
     (words ≡ changedWords (y .number) (y .place)))
 
 unfoldable pub SolvesTask : List ℕ → List ℕ → List ℕ → List ℕ → List ℕ → ℕ → Type 0
@@ -64,7 +62,7 @@ unfoldable pub EditsSession : List ℕ → List ℕ → ℕ → ℕ → ℕ → 
 EditsSession ws left kind action fact present table after =
     Answers changedLength ((left ≡ ws) × (after ≡ table))
     (λ words.
-    (y : Edited) ×
+    (y : TaskReply) ×
     (Edits (taskIn ws) table (editOf kind action fact present) y after × (left ≡ lentBack ws (y .number) (y .task))) ×
     (words ≡ changedWords (y .number) (y .place)))
 
