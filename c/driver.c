@@ -6,7 +6,7 @@
 
 #include "zernoplysk.h"
 
-enum { IN = 0, OUT = 1, CHUNK = 1 << 16, TEXT_BYTES = 4096 };
+enum { IN = 0, OUT = 1, CHUNK = 1 << 16 };
 
 enum { RECORD = 1, READ, WRITE, CHECK, APPLY, SOLVE, OPEN, EDIT, LIST, LISTING };
 
@@ -126,7 +126,7 @@ static uint64_t word_at(const struct request *q, size_t i) { return i < q->words
 
 static void make(struct request *q) {
     uint64_t a[ZP_TASK_ANSWER_WORDS];
-    static uint8_t text[TEXT_BYTES];
+    static uint8_t text[ZP_LISTING_BYTES];
     /* the task's words, and what stands behind them */
     size_t more = q->op == EDIT ? 4 : q->op == LIST ? 1 : 0;
     size_t task = q->words < more ? 0 : q->words - more;

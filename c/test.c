@@ -132,7 +132,7 @@ static void order_of_changing(void) {
 static void order_of_solving(void) {
     static const char text[] = "task 4 3 3 3\nopen 2 3 1\nset 2\ndrop-delete 1 1\nadd-effect 0 2\nend\n";
     uint16_t room[8], table[ZP_TABLE_NUMBERS];
-    uint8_t letters[600];
+    uint8_t letters[ZP_LISTING_BYTES];
     memset(room, UNTOUCHED, sizeof room);
     expect(zp_solve(task, ZP_TASK_WORDS, room, 8, fresh(), ZP_REPLY_WORDS) == 0, "order: solve");
     expect(is_reply(0, 0, 2) && room[0] == 97 && room[1] == 224 && halves_kept(room + 2, 6),
@@ -218,6 +218,19 @@ static void solve_and_apply(void) {
     expect(zp_apply(NULL, 0, NULL, 0, fresh(), ZP_CHANGED_WORDS) == 12, "apply: no words");
 }
 
+/* A cell that is absent, set to a number but 0: it is present, and the same number sets it once more. */
+static void numbers_of_present(uint16_t *table) {
+    static const size_t present[4] = {1, 2, 256, (size_t)-1};
+    for (size_t i = 0; i < 4; i++) {
+        expect(zp_edit(lend(), ZP_TASK_WORDS, ZP_DELETE, 1, 1, 0, table, 448, fresh(), ZP_CHANGED_WORDS) == 0, "edit: 0");
+        expect(differs_at(ZP_AT_DELETES + 1, 0), "edit: 0 is absent");
+        for (int again = 0; again < 2; again++) {
+            zp_edit(lent, ZP_TASK_WORDS, ZP_DELETE, 1, 1, present[i], table, 448, fresh(), ZP_CHANGED_WORDS);
+            expect(is_changed(0, 0) && as_lent() && table[7] == 1 && table[8] == 97, "edit: every number but 0 is present");
+        }
+    }
+}
+
 static void session(void) {
     uint16_t table[ZP_TABLE_NUMBERS + 1], room[6];
     memset(table, 0, sizeof table);
@@ -235,6 +248,7 @@ static void session(void) {
            "edit: its row and no other");
     expect(zp_list(lent, ZP_TASK_WORDS, table, 448, room, 6, fresh(), ZP_REPLY_WORDS) == 0 && is_reply(0, 0, 1), "list: one");
     expect(room[0] == 224, "list: 224");
+    numbers_of_present(table);
 }
 
 static void refused_edits(void) {
@@ -263,6 +277,9 @@ static void listing(void) {
     expect(bytes_kept(room, sizeof room), "listing: a refusal writes nothing");
     expect(zp_listing(NULL, 0, room, sizeof room, fresh(), ZP_REPLY_WORDS) == 0 && memcmp(room, "refused 1 0\n", 12) == 0,
            "listing: nothing is refused 1 0");
+    expect(sizeof room > ZP_LISTING_BYTES && zp_listing(file, 36, room, ZP_LISTING_BYTES, fresh(), ZP_REPLY_WORDS) == 0,
+           "listing: the named room is enough");
+    expect(bytes_kept(room + ZP_LISTING_BYTES, sizeof room - ZP_LISTING_BYTES), "listing: nothing after the room");
 }
 
 int main(void) {

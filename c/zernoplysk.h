@@ -52,10 +52,11 @@ enum {
     ZP_RECORD_WORDS = 6,                          /* number, place, kind, start, length, next */
     ZP_TASK_ANSWER_WORDS = 2 + ZP_TASK_WORDS,     /* number, place, task */
 
-    /* A session table, and the longest file and list. */
+    /* A session table, the longest file and list, and room for every listing. */
     ZP_TABLE_NUMBERS = 448,
     ZP_FILE_BYTES = 18821,
     ZP_LIST_NUMBERS = 6,
+    ZP_LISTING_BYTES = 510,
 
     /* The kinds of cell that an edit names; any other kind is refused with 14. */
     ZP_NEED = 0,
@@ -82,7 +83,7 @@ size_t zp_check(const uint64_t *task, size_t task_len, uint64_t *answer, size_t 
 size_t zp_apply(uint64_t *task, size_t task_len, const uint16_t *list, size_t list_len, uint64_t *answer,
                 size_t answer_len);
 
-/* The least repair list into `room`. Answer: ZP_REPLY_WORDS. */
+/* The least repair list into `room`; ZP_LIST_NUMBERS are always enough. Answer: ZP_REPLY_WORDS. */
 size_t zp_solve(const uint64_t *task, size_t task_len, uint16_t *room, size_t room_len, uint64_t *answer,
                 size_t answer_len);
 
@@ -90,16 +91,16 @@ size_t zp_solve(const uint64_t *task, size_t task_len, uint16_t *room, size_t ro
 size_t zp_open(const uint64_t *task, size_t task_len, uint16_t *table, size_t table_len, uint64_t *answer,
                size_t answer_len);
 
-/* One cell set to present (1) or absent (any other number) in the task's words, and its fact's row of the table written
+/* One cell set to absent (0) or present (any other number) in the task's words, and its fact's row of the table written
  * afresh. Answer: ZP_CHANGED_WORDS. */
 size_t zp_edit(uint64_t *task, size_t task_len, size_t kind, size_t action, size_t fact, size_t present,
                uint16_t *table, size_t table_len, uint64_t *answer, size_t answer_len);
 
-/* The list of a session table into `room`. Answer: ZP_REPLY_WORDS. */
+/* The list of a session table into `room`; ZP_LIST_NUMBERS are always enough. Answer: ZP_REPLY_WORDS. */
 size_t zp_list(const uint64_t *task, size_t task_len, const uint16_t *table, size_t table_len, uint16_t *room,
                size_t room_len, uint64_t *answer, size_t answer_len);
 
-/* The listing text of an input into `room`. Answer: ZP_REPLY_WORDS. */
+/* The listing text of an input into `room`; ZP_LISTING_BYTES are always enough. Answer: ZP_REPLY_WORDS. */
 size_t zp_listing(const uint8_t *input, size_t input_len, uint8_t *room, size_t room_len, uint64_t *answer,
                   size_t answer_len);
 

@@ -12,6 +12,19 @@ pub const CHECKED_WORDS: usize = 5;
 pub const RECORD_WORDS: usize = 6;
 pub const TASK_ANSWER_WORDS: usize = 2 + TASK_WORDS;
 
+// A session table, the longest file and list, and room for every listing.
+pub const TABLE_NUMBERS: usize = 448;
+pub const FILE_BYTES: usize = 18821;
+pub const LIST_NUMBERS: usize = 6;
+pub const LISTING_BYTES: usize = 510;
+
+// The kinds of cell that an edit names; any other kind is refused with 14.
+pub const NEED: usize = 0;
+pub const ADD: usize = 1;
+pub const DELETE: usize = 2;
+pub const START: usize = 3;
+pub const GOAL: usize = 4;
+
 extern "C" {
     fn zp_record(
         file: *const u8,
@@ -106,7 +119,7 @@ pub fn read(file: &[u8], answer: &mut [u64]) -> usize {
     unsafe { zp_read(file.as_ptr(), file.len(), answer.as_mut_ptr(), answer.len()) }
 }
 
-/// The task's file into `room`. Answer: `REPLY_WORDS`.
+/// The task's file into `room`; `FILE_BYTES` are always enough. Answer: `REPLY_WORDS`.
 pub fn write(task: &[u64], room: &mut [u8], answer: &mut [u64]) -> usize {
     // SAFETY: each pointer is good for its length, and what may be written is lent to this call alone.
     unsafe {
@@ -142,7 +155,7 @@ pub fn apply(task: &mut [u64], list: &[u16], answer: &mut [u64]) -> usize {
     }
 }
 
-/// The least repair list into `room`. Answer: `REPLY_WORDS`.
+/// The least repair list into `room`; `LIST_NUMBERS` are always enough. Answer: `REPLY_WORDS`.
 pub fn solve(task: &[u64], room: &mut [u16], answer: &mut [u64]) -> usize {
     // SAFETY: each pointer is good for its length, and what may be written is lent to this call alone.
     unsafe {
@@ -157,7 +170,7 @@ pub fn solve(task: &[u64], room: &mut [u16], answer: &mut [u64]) -> usize {
     }
 }
 
-/// A session table opened for the task. Answer: `REPLY_WORDS`.
+/// A session table opened for the task: `TABLE_NUMBERS` numbers. Answer: `REPLY_WORDS`.
 pub fn open(task: &[u64], table: &mut [u16], answer: &mut [u64]) -> usize {
     // SAFETY: each pointer is good for its length, and what may be written is lent to this call alone.
     unsafe {
@@ -172,7 +185,8 @@ pub fn open(task: &[u64], table: &mut [u16], answer: &mut [u64]) -> usize {
     }
 }
 
-/// One cell set to present (1) or absent in the task's words, its fact's row written afresh. Answer: `CHANGED_WORDS`.
+/// One cell set to absent (0) or present (any other number) in the task's words, its fact's row written afresh. Answer:
+/// `CHANGED_WORDS`.
 pub fn edit(
     task: &mut [u64],
     kind: usize,
@@ -199,7 +213,7 @@ pub fn edit(
     }
 }
 
-/// The list of a session table into `room`. Answer: `REPLY_WORDS`.
+/// The list of a session table into `room`; `LIST_NUMBERS` are always enough. Answer: `REPLY_WORDS`.
 pub fn list(task: &[u64], table: &[u16], room: &mut [u16], answer: &mut [u64]) -> usize {
     // SAFETY: each pointer is good for its length, and what may be written is lent to this call alone.
     unsafe {
@@ -216,7 +230,7 @@ pub fn list(task: &[u64], table: &[u16], room: &mut [u16], answer: &mut [u64]) -
     }
 }
 
-/// The listing text of an input into `room`. Answer: `REPLY_WORDS`.
+/// The listing text of an input into `room`; `LISTING_BYTES` are always enough. Answer: `REPLY_WORDS`.
 pub fn listing(input: &[u8], room: &mut [u8], answer: &mut [u64]) -> usize {
     // SAFETY: each pointer is good for its length, and what may be written is lent to this call alone.
     unsafe {

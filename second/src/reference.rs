@@ -105,7 +105,7 @@ impl Reference {
     }
 }
 
-/// The edit that four words name.
+/// The edit that four words name; every fourth word but 0 is present.
 fn edit_of(words: &[u64]) -> Edit {
     let action = words[1];
     let cell = match words[0] {
@@ -115,7 +115,7 @@ fn edit_of(words: &[u64]) -> Edit {
         3 => Cell::Start,
         _ => Cell::Goal,
     };
-    Edit { cell, fact: words[2], present: words[3] == 1 }
+    Edit { cell, fact: words[2], present: words[3] != 0 }
 }
 
 fn record_response(file: &[u8], place: u64) -> Response {

@@ -171,7 +171,8 @@ fn edit(comparison: &mut Comparison, session: &mut Session, random: &mut Random)
         1 => table.push(UNUSED),
         _ => {}
     }
-    let edit = [random.below(5) as u64, action, fact, random.below(2) as u64];
+    let present = random.pick(&[0, 0, 0, 1, 1, 2, far]);
+    let edit = [random.below(5) as u64, action, fact, present];
     let words = [session.words.as_slice(), &edit].concat();
     let Some(response) = comparison.ask(request(Call::Edit, &words, bytes_of(&table)))? else { return Ok(()) };
     comparison.counts.edits += 1;

@@ -1,0 +1,102 @@
+//! A small test of the Rust side (zernoplysk.rs): 01's 36-byte file through every function, linked with the library and run.
+//! It prints what fails and ends with status 1 if anything did. It stands on `core` alone, and is compiled with
+//! optimization, so that it needs nothing of Rust's own library where it is linked.
+#![no_std]
+
+#[path = "zernoplysk.rs"]
+pub mod zernoplysk;
+
+use zernoplysk::*;
+
+extern "C" {
+    fn write(to: i32, bytes: *const u8, length: usize) -> isize;
+    fn abort() -> !;
+}
+
+#[panic_handler]
+fn on_panic(_: &core::panic::PanicInfo) -> ! {
+    // SAFETY: it ends the program.
+    unsafe { abort() }
+}
+
+/// Rust's code names it, and nothing here unwinds.
+#[no_mangle]
+pub extern "C" fn rust_eh_personality() {}
+
+fn say(what: &str) {
+    // SAFETY: the pointer is good for the length.
+    unsafe { write(1, what.as_ptr(), what.len()) };
+}
+
+fn expect(holds: bool, what: &str) -> i32 {
+    if !holds {
+        say("failed: ");
+        say(what);
+        say("\n");
+    }
+    i32::from(!holds)
+}
+
+const FILE: [u8; 36] = [
+    1, 4, 3, 3, 2, 0, 3, 3, 4, 0, 0, 4, 1, 1, 4, 2, 1, 4, 2, 2, 5, 0, 1, 5, 2, 3, 6, 1, 1, 7, 0, 7, 1, 7, 2, 8,
+];
+const TEXT: &str = "task 4 3 3 3\nopen 2 3 1\nset 2\ndrop-delete 1 1\nadd-effect 0 2\nend\n";
+
+/// Where the needs of action 2 stand among a task's words.
+const NEEDS_OF_2: usize = 5;
+
+/// Whether the first elements are these.
+fn opens<T: PartialEq>(all: &[T], first: &[T]) -> bool {
+    all.iter().zip(first).filter(|(a, b)| a == b).count() == first.len()
+}
+
+fn files(task: &mut [u64; TASK_WORDS]) -> i32 {
+    let mut answer = [7; TASK_ANSWER_WORDS];
+    let mut room = [7; FILE_BYTES];
+    let mut failed = expect(read(&FILE, &mut answer) == 0 && opens(&answer, &[0, 0, 4, 3, 3]), "read");
+    for (word, read) in task.iter_mut().zip(answer.iter().skip(2)) {
+        *word = *read;
+    }
+    failed += expect(record(&FILE, 8, &mut answer) == 0 && opens(&answer, &[0, 0, 4, 9, 2, 11]), "record");
+    failed += expect(write_file(task, &mut room, &mut answer) && opens(&room, &FILE), "write");
+    failed += expect(check(task, &mut answer) == 0 && opens(&answer, &[0, 0, 2, 3, 1]), "check");
+    failed + expect(read(&FILE, &mut []) == ANSWER_TOO_SHORT, "an answer without room")
+}
+
+fn write_file(task: &[u64], room: &mut [u8], answer: &mut [u64]) -> bool {
+    zernoplysk::write(task, room, answer) == 0 && opens(answer, &[0, 0, FILE.len() as u64])
+}
+
+fn lists(task: &[u64; TASK_WORDS]) -> i32 {
+    let (mut answer, mut room, mut text) = ([7; REPLY_WORDS], [7; LIST_NUMBERS], [7; LISTING_BYTES]);
+    let mut mended = *task;
+    let mut failed = expect(solve(task, &mut room, &mut answer) == 0 && answer == [0, 0, 2], "solve");
+    failed += expect(opens(&room, &[97, 224, 7, 7, 7, 7]), "solve: the list and nothing beside");
+    failed += expect(apply(&mut mended, &[97, 224], &mut answer) == 0 && mended != *task, "apply");
+    failed += expect(solve(&mended, &mut room, &mut answer) == 0 && answer == [0, 0, 0], "apply: nothing is left to repair");
+    failed += expect(listing(&FILE, &mut text, &mut answer) == 0 && opens(&text, TEXT.as_bytes()), "listing");
+    failed + expect(answer == [0, 0, TEXT.len() as u64], "listing: its length")
+}
+
+fn session(task: &mut [u64; TASK_WORDS]) -> i32 {
+    let (mut answer, mut room, mut table) = ([7; REPLY_WORDS], [7; LIST_NUMBERS], [7; TABLE_NUMBERS]);
+    let as_read = *task;
+    let mut failed = expect(open(task, &mut table, &mut answer) == 0 && answer == [0, 0, 448], "open");
+    failed += expect(edit(task, DELETE, 1, 1, 0, &mut table, &mut answer) == 0 && *task != as_read, "edit: 0 is absent");
+    failed += expect(list(task, &table, &mut room, &mut answer) == 0 && answer == [0, 0, 1], "list");
+    failed += expect(opens(&room, &[224, 7]), "list: what is left");
+    failed += expect(edit(task, DELETE, 1, 1, 2, &mut table, &mut answer) == 0 && *task == as_read, "edit: 2 is present");
+    failed += expect(edit(task, 5, 1, 1, 1, &mut table, &mut answer) == 14 && *task == as_read, "edit: no such kind");
+    failed += expect(list(task, &table, &mut room, &mut answer) == 0 && opens(&room, &[97, 224]), "list: as it was");
+    // In any other order the numbers 0, 2, 3 and 1 name another cell or another value.
+    failed += expect(edit(task, NEED, 2, 3, 1, &mut table, &mut answer) == 0, "edit: in its order");
+    failed + expect(task.iter().zip(&as_read).filter(|(a, b)| a != b).count() == 1 && task[NEEDS_OF_2] == 14, "edit: the cell")
+}
+
+#[no_mangle]
+pub extern "C" fn main() -> i32 {
+    let mut task = [0; TASK_WORDS];
+    let failed = files(&mut task) + lists(&task) + session(&mut task);
+    say(if failed == 0 { "rust: every expectation holds\n" } else { "rust: expectations failed\n" });
+    i32::from(failed != 0)
+}

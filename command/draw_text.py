@@ -1,0 +1,97 @@
+"""A picture in the terminal: steps down, facts across. Colours only repeat what the signs say."""
+
+import textwrap
+import unicodedata
+
+SIGNS = {(False, False): " . ", (True, False): " + ", (True, True): "[+]", (False, True): "[X]"}  # present, needed
+LEGEND = [
+    "Each line shows the facts before its step.",
+    ".  absent     +  present     [+]  needed and present     [X]  needed and missing",
+]
+CHANGED = " *"  # beside an action that the correction changes
+PITCH = 4  # columns of a fact
+GAP = "   "  # between the parts of a line
+LONGEST_ACTION, LONGEST_FACT = 28, 32
+
+RED, GREEN, DIM, PLAIN = "\033[1;31m", "\033[32m", "\033[2m", "\033[0m"
+
+
+def width(text):
+    """How many columns of a terminal the text takes."""
+    return sum(0 if unicodedata.combining(c) else 2 if unicodedata.east_asian_width(c) in "WF" else 1 for c in text)
+
+
+def fit(text, columns):
+    """The text in exactly so many columns, cut where it is longer."""
+    if width(text) > columns:
+        while width(text) > columns - 2:
+            text = text[:-1]
+        text += ".."
+    return text + " " * (columns - width(text))
+
+
+def short(text, longest):
+    return fit(text, longest).rstrip() if width(text) > longest else text
+
+
+def lines(picture, columns, coloured):
+    """The drawing in so many columns: in several parts, one below the other, where the facts are too many."""
+    if not picture.facts:
+        return [f"{picture.title}: nothing is missing, and nothing is changed"]
+    actions = min(LONGEST_ACTION, max(width(row.action) for row in picture.rows))
+    left = 4 + len(GAP) + actions + len(CHANGED) + 1
+    room = (columns - left) // len(picture.sides) - len(GAP)
+    drawing = [picture.title]
+    facts = [short(heading, LONGEST_FACT) for heading in picture.headings()]
+    while facts:
+        start = len(picture.facts) - len(facts)
+        many = fitting(facts, room)
+        drawing += ["", *part(picture, start, facts[:many], actions, coloured)]
+        facts = facts[many:]
+    drawing += ["", *LEGEND, *(f"{CHANGED.strip()}  changed: {change}" for change in picture.changes)]
+    return drawing + [line for shared in picture.shared() for line in ["", *wrapped(shared, columns)]]
+
+
+def wrapped(sentence, columns):
+    """The sentence in lines of so many columns, with no name cut."""
+    return textwrap.wrap(sentence, columns, break_on_hyphens=False, break_long_words=False)
+
+
+def side_width(facts):
+    """The columns of one side: each fact has its own, and its name stands above and runs on to the right."""
+    return max(PITCH * i + 1 + width(fact) for i, fact in enumerate(facts))
+
+
+def fitting(facts, room):
+    """How many of the facts, from the first on, one side has room for; at least one."""
+    many = 1
+    while many < len(facts) and side_width(facts[: many + 1]) <= room:
+        many += 1
+    return many
+
+
+def part(picture, start, facts, actions, coloured):
+    across = max(side_width(facts), PITCH * len(facts), len("before"))
+    left = " " * (4 + len(GAP) + actions + len(CHANGED) + 1)
+    headings = [fit(" " + heading, across) for heading, _ in picture.sides]
+    drawing = [left + GAP.join(headings).rstrip()]
+    for i, fact in enumerate(facts):
+        names = [fit(" |  " * i + " " + fact, across) for _ in picture.sides]
+        drawing.append(left + GAP.join(names).rstrip())
+    for number, row in enumerate(picture.rows):
+        label = f"{row.step:>4}{GAP}{fit(row.action, actions)}{CHANGED if row.changed else '':{len(CHANGED)}} "
+        sides = [cells[number][start : start + len(facts)] for _, cells in picture.sides]
+        drawing.append((label + GAP.join(signs(side, across, coloured) for side in sides)).rstrip())
+    return drawing
+
+
+def signs(cells, across, coloured):
+    drawn = [sign(cell, coloured) + " " for cell in cells]
+    return "".join(drawn) + " " * (across - PITCH * len(cells))
+
+
+def sign(cell, coloured):
+    text = SIGNS[cell.present, cell.needed]
+    if not coloured:
+        return text
+    return (RED if cell.missing else GREEN if cell.present else DIM) + text + PLAIN

@@ -1,0 +1,85 @@
+"""The proved library's calls, through the driver over a pipe (docs/BOUNDARY.md, "The driver")."""
+
+import struct
+
+from program import started
+from ready import ROOT, make_ready
+from stop import UNABLE, Stop
+
+DRIVER = ROOT / "target" / "c" / "driver"
+
+READ, WRITE, CHECK, APPLY, SOLVE = 2, 3, 4, 5, 6
+
+# The places of a task's words (c/zernoplysk.h).
+AT_NEEDS, AT_GOAL, AT_COUNT, AT_STEPS = 3, 100, 101, 102
+ACTIONS, STEPS, LONGEST_FILE, LONGEST_LIST = 32, 64, 18821, 6
+
+
+class Library:
+    def __init__(self):
+        sources = ["crates", "crates.txt", "c/driver.c", "c/zernoplysk.h"]
+        make_ready("boundary", [str(ROOT / "c" / "build.sh")], [DRIVER], sources)
+
+    def ask(self, requests):
+        """Makes calls, each (call, words, bytes), and gives what came back of each, (words, bytes)."""
+        sent = b"".join(packed(*request) for request in requests)
+        ran = started(DRIVER, sent)
+        if ran.returncode != 0:
+            raise Stop(UNABLE, f"mend: the library's driver ended with status {ran.returncode}")
+        return unpacked(ran.stdout, len(requests))
+
+    def call(self, call, words, data=b""):
+        """Makes one call that the library has to accept, and gives the words after number and place, and the bytes."""
+        words, data = self.ask([(call, words, data)])[0]
+        if words[0] != 0:
+            raise Stop(UNABLE, f"mend: the library refuses with {words[0]} what the program accepts")
+        return words[2:], data
+
+    def task(self, data):
+        return self.call(READ, [], data)[0]
+
+    def mended(self, task):
+        """The task with its own answer applied, by the library's solve and apply."""
+        (length,), room = self.call(SOLVE, task, bytes(2 * LONGEST_LIST))
+        return self.call(APPLY, task, room[: 2 * length])[0]
+
+    def file(self, task):
+        (length,), room = self.call(WRITE, task, bytes(LONGEST_FILE))
+        return room[:length]
+
+    def presence(self, task, facts):
+        """For each number of steps, from none to all, the facts of these that are present after so many. It is the run check
+        that says so: of the run cut there, with nothing needed, and the fact as the one goal."""
+        count, steps = task[AT_COUNT], task[AT_STEPS:]
+        asked = [(done, fact) for done in range(count + 1) for fact in facts]
+        requests = []
+        for done, fact in asked:
+            words = list(task)
+            words[AT_NEEDS : AT_NEEDS + ACTIONS] = [0] * ACTIONS
+            words[AT_GOAL:] = [1 << fact, done, *steps[:done], *[0] * (STEPS - done)]
+            requests.append((CHECK, words, b""))
+        states = [set() for _ in range(count + 1)]
+        for (done, fact), (words, _) in zip(asked, self.ask(requests)):
+            if words[:3] == [0, 0, 0]:
+                states[done].add(fact)
+        return states
+
+
+def packed(call, words, data):
+    return struct.pack(f"<BI{len(words)}QI", call, len(words), *words, len(data)) + data
+
+
+def unpacked(data, count):
+    """The responses of the driver; fewer than were asked for are no answer."""
+    responses, at = [], 0
+    try:
+        for _ in range(count):
+            (length,) = struct.unpack_from("<I", data, at)
+            *words, size = struct.unpack_from(f"<{length}QI", data, at + 4)
+            at += 8 + 8 * length + size
+            responses.append((words, data[at - size : at]))
+    except struct.error:
+        at = -1
+    if at != len(data):
+        raise Stop(UNABLE, "mend: the library's driver did not answer every call")
+    return responses

@@ -1,0 +1,124 @@
+"""mend: takes a readable table or a task file, and tells in names and words what to change (mend --help)."""
+
+import signal
+
+signal.signal(signal.SIGINT, signal.SIG_DFL)  # until there is a way to tell of it
+
+import io
+import os
+import shutil
+import sys
+
+import corrected
+import draw_svg
+import draw_text
+import files
+import judging
+import options
+import picture
+import source
+import words
+from given import Given
+from library import Library
+from program import is_built, listing_of
+from stop import LIST, NO_LIST, REFUSED, UNABLE, Stop
+from taskfile import file_of
+
+INPUTS, OUTPUTS = ("file", "names"), ("task", "table", "svg")
+
+
+def mend(arguments, out):
+    """Answers on `out`, and gives the exit status."""
+    asked = options.parsed(arguments)
+    if "help" in asked:
+        out.write(options.help_text())
+        return LIST
+    given = Given(asked)
+    files.judge_outputs(asked, INPUTS, OUTPUTS)
+    if given.fault is not None and not is_built():
+        raise Stop(REFUSED, given.refusal(f"refused at byte {given.fault}, before the program is proved and built"))
+    if "task" in asked:
+        files.write(asked["task"], given.data)
+    found = listing_of(given.data)
+    if "numbers" in asked:
+        out.write(found.text)
+    if found.sizes is None:
+        raise Stop(REFUSED, given.refusal(words.refusal(found)))
+    if "numbers" not in asked:
+        out.write("\n".join(words.answer(given.path, found, given.names(), given.task().steps)) + "\n")
+    if "show" in asked or "svg" in asked:
+        draw(asked, given, found, out)
+    if "table" in asked:
+        write_table(asked["table"], given, found)
+    return LIST if found.refusal is None else NO_LIST
+
+
+def draw(asked, given, found, out):
+    drawn = picture.drawn(given.path, given.data, found, given.names(), Library())
+    if "show" in asked:
+        coloured = sys.stdout.isatty() and "NO_COLOR" not in os.environ and os.environ.get("TERM") != "dumb"
+        columns = shutil.get_terminal_size((100, 24)).columns
+        out.write("\n" + "\n".join(draw_text.lines(drawn, columns, coloured)) + "\n")
+    if "svg" in asked:
+        files.write(asked["svg"], draw_svg.svg(drawn).encode("utf-8", "backslashreplace"))
+
+
+def write_table(path, given, found):
+    """The source with the correction made, shown to be what the library's apply gives."""
+    if found.refusal:
+        raise Stop(NO_LIST, f"{files.shown(path)}: not written: there is no correction to make")
+    text = corrected.text(given.source, found.repairs)
+    again, library = source.read(text), Library()
+    applied = library.file(library.mended(library.task(given.data)))
+    if judging.errors(again) or file_of(again) != applied:
+        raise Stop(UNABLE, f"{files.shown(path)}: not written: the corrected source is not what the library's apply gives")
+    files.write(path, text.encode())
+
+
+def told(lines):
+    try:
+        for line in lines if sys.stderr else []:
+            print(line, file=sys.stderr, flush=True)
+    except OSError:
+        let_go(sys.stderr)
+
+
+def let_go(stream):
+    """What could not be written is let go, so that ending does not try once more."""
+    os.dup2(os.open(os.devnull, os.O_WRONLY), stream.fileno())
+
+
+def main(arguments):
+    if sys.stdout is None:
+        told(["mend: standard output can't be written: it is closed"])
+        return UNABLE
+    out = io.StringIO()
+    try:
+        signal.signal(signal.SIGINT, signal.default_int_handler)
+        status, lines = mend(arguments, out), []
+    except Stop as stop:
+        status, lines = stop.status, stop.lines
+    except KeyboardInterrupt:
+        status, lines = UNABLE, ["mend: interrupted"]
+    except Exception as error:  # never a traceback
+        status, lines = UNABLE, [f"mend: an error of its own: {type(error).__name__}: {error}"]
+    signal.signal(signal.SIGINT, signal.SIG_DFL)
+    failure = unwritten(out.getvalue())
+    told([*lines, *failure])
+    return UNABLE if failure else status
+
+
+def unwritten(text):
+    """Writes the answer; what failed, if anything did, as the lines that tell it."""
+    try:
+        sys.stdout.reconfigure(errors="backslashreplace")
+        sys.stdout.write(text)
+        sys.stdout.flush()
+        return []
+    except OSError as error:
+        let_go(sys.stdout)
+        return [f"mend: standard output can't be written: {error.strerror}"]
+
+
+if __name__ == "__main__":
+    sys.exit(main(sys.argv[1:]))

@@ -1,0 +1,88 @@
+"""Sources are judged: every error with its line, its column and the name it might have meant, and all of them."""
+
+from support import GOOD, LIST, REFUSED, Case, mend
+
+HEAD = "limit 3\nfacts a-known b\n"
+TAIL = "action go\nsteps go\n"
+RANGE = "is no range: one is written {1..3}, runs upwards, and has at most 64 numbers"
+LIMIT = "'limit' takes one number from 0 to 6"
+
+ERRORS = {  # a source: its errors
+    "limit 7\nfacts a\n" + TAIL: [f"1:7: {LIMIT}"],
+    "limit -1\nfacts a\n" + TAIL: [f"1:7: {LIMIT}"],
+    "limit many\nfacts a\n" + TAIL: [f"1:7: {LIMIT}"],
+    "limit 3 4\nfacts a\n" + TAIL: [f"1:7: {LIMIT}"],
+    "limit\nfacts a\n" + TAIL: [f"1:1: {LIMIT}"],
+    "limit " + "9" * 5000 + "\nfacts a\n" + TAIL: [f"1:7: {LIMIT}"],
+    "limit 3\nlimit 3\nfacts a\n" + TAIL: ["2:1: 'limit' is said twice: first on line 1"],
+    "facts a\n" + TAIL: ["3:1: there is no limit: write 'limit 6' for at most six repairs"],
+    "limit 3\n" + TAIL: ["3:1: there is no fact"],
+    "limit 3\nfacts\n" + TAIL: ["4:1: there is no fact"],
+    HEAD: ["2:1: there is no action"],
+    HEAD + "action\n" + TAIL: ["3:1: an action needs a name"],
+    HEAD + "needs b\n" + TAIL: ["3:1: 'needs' is said of no action: none stands above it"],
+    HEAD + "facts  c b\n" + TAIL: ["3:10: the fact 'b' is declared twice: first on line 2"],
+    HEAD + TAIL + "action go\n": ["5:8: the action 'go' is declared twice: first on line 3"],
+    HEAD + "start b b\n" + TAIL: ["3:9: 'b' is said twice under 'start': first on line 3"],
+    HEAD + "goal b\ngoal b\n" + TAIL: ["4:6: 'b' is said twice under 'goal': first on line 3"],
+    HEAD + "start a-knwon\n" + TAIL: ["3:7: there is no fact 'a-knwon'; did you mean 'a-known'?"],
+    HEAD + "goal  zzz\n" + TAIL: ["3:7: there is no fact 'zzz'"],
+    HEAD + TAIL + "  adds a-konwn\n": ["5:8: there is no fact 'a-konwn'; did you mean 'a-known'?"],
+    HEAD + TAIL + "  needs b\n  needs b\n": ["6:9: 'b' is said twice under 'needs': first on line 5"],
+    HEAD + TAIL + "  deletes go\n": ["5:11: 'go' is no fact, but an action"],
+    HEAD + TAIL + "steps goo b\n": ["5:7: there is no action 'goo'; did you mean 'go'?", "5:11: 'b' is no action, but a fact"],
+    HEAD + TAIL + "stepps go\n": ["5:1: 'stepps' is no statement; did you mean 'steps'?"],
+    HEAD + TAIL + "xyzzy go\n": ["5:1: 'xyzzy' is no statement"],
+    HEAD + TAIL + "start a-{2..1}\n": [f"5:7: 'a-{{2..1}}' {RANGE}"],
+    HEAD + TAIL + "start a-{1..99}\n": [f"5:7: 'a-{{1..99}}' {RANGE}"],
+    HEAD + TAIL + "start a-{1..\n": [f"5:7: 'a-{{1..' {RANGE}"],
+    HEAD + TAIL + "start a{1..2}{1..2}\n": [f"5:7: 'a{{1..2}}{{1..2}}' {RANGE}"],
+    HEAD + TAIL + "start b\u200b\n": ["5:7: 'b\\u200b' has a letter that can't be printed"],
+    "limit 3\nfacts f-{1..60} g-{1..5}\n" + TAIL: ["2:17: 'g-5' is fact number 65, and there may be 64"],
+    HEAD + TAIL + "action s-{1..32}\n": ["5:8: 's-32' is action number 33, and there may be 32"],
+    HEAD + TAIL + "steps" + " go" * 64 + "\n": ["5:196: 'go' is step number 65, and there may be 64"],
+    HEAD + TAIL + "cut many\n": ["5:5: 'cut' takes one number from 0 to 1000000"],
+    HEAD + TAIL + "fill 9999999\n": ["5:6: 'fill' takes one number from 0 to 1000000"],
+}
+
+
+class Sources(Case):
+    def test_each_error(self):
+        for text, errors in ERRORS.items():
+            with self.subTest(source=text[-60:]):
+                path = self.file("bad.txt", text)
+                self.assertEqual(self.expect(mend(path), REFUSED, [f"{path}:{error}" for error in errors]), "")
+
+    def test_all_errors_in_the_order_of_the_lines(self):
+        path = self.file("bad.txt", "limit 9\nfact a\nstart b\naction go\n delets a\n needs c\nsteps gone\n")
+        told = [
+            "1:7: 'limit' takes one number from 0 to 6",
+            "2:1: 'fact' is no statement; did you mean 'facts'?",
+            "3:7: there is no fact 'b'",
+            "5:2: 'delets' is no statement; did you mean 'deletes'?",
+            "6:8: there is no fact 'c'",
+            "7:7: there is no action 'gone'; did you mean 'go'?",
+        ]
+        self.expect(mend(path), REFUSED, [f"{path}:{error}" for error in told])
+
+    def test_an_error_writes_no_file(self):
+        path = self.file("bad.txt", GOOD + "steps nothing\n")
+        for option in ("--task", "--table", "--svg"):
+            self.assertEqual(mend(path, option, self.folder / "out").returncode, REFUSED)
+        self.assertEqual([each.name for each in self.folder.iterdir()], ["bad.txt"])
+
+    def test_line_ends_and_marks_of_other_machines(self):
+        told = [self.expect(mend(self.file("a.txt", text)), LIST) for text in (GOOD, GOOD.replace("\n", "\r\n"), "\ufeff" + GOOD)]
+        self.assertEqual(told, [told[0]] * 3)
+        self.assertIn("press should make lamp-on true", told[0])
+
+    def test_names_may_be_used_before_they_are_declared(self):
+        self.expect(mend(self.file("a.txt", "steps go\nstart a\n" + "action go\n needs a\nfacts a\nlimit 0\n")), LIST)
+
+    def test_names_in_other_letters(self):
+        told = self.expect(mend(self.file("a.txt", GOOD.replace("lamp-on", "лампа-💡"))), LIST)
+        self.assertIn("press should make лампа-💡 true", told)
+
+    def test_a_byte_that_is_no_utf_8(self):
+        path = self.file("latin.txt", GOOD.encode() + "# schön".encode("latin-1"))
+        self.expect(mend(path), REFUSED, f"{path}:12:6: the byte 246 is no text in UTF-8")
