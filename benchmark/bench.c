@@ -4,7 +4,8 @@
  * A sample is so many calls in a row that the clock's own cost does not show; the minimum and the median are over the
  * samples. An edit is one present cell set to absent, or set back: each present cell of the task is done in turn (if
  * edits are slow, evenly spaced ones of them), the least time over the rounds is kept for each, and the line has the
- * mean and the worst over the cells; `edit/open` is the mean against opening.
+ * mean and the worst over the cells; `edit/open` is the mean against opening. The last two numbers are how many facts
+ * the task has, and how many of them are wrong: their rows are not empty.
  *
  * Status: 2 a file cannot be opened, 3 it is refused, 4 an edit and its undoing do not give the task, 5 no cell. */
 #define _POSIX_C_SOURCE 200809L
@@ -114,6 +115,14 @@ static void thin_cells(double one) {
     cells = left;
 }
 
+/* How many facts are wrong, by the table that was opened. */
+static size_t wrong_facts(void) {
+    size_t wrong = 0;
+    for (size_t fact = 0; fact < FACTS; fact++)
+        wrong += table[fact * (ZP_TABLE_NUMBERS / FACTS)] != 0;
+    return wrong;
+}
+
 /* Prints the mean and the worst edit over the cells; gives the mean. */
 static double measured_edits(void) {
     double begun, sum = 0, worst = 0;
@@ -138,7 +147,7 @@ static double measured_edits(void) {
 }
 
 int main(int count, char **path) {
-    printf("file outcome read . check . solve . open . edit-mean edit-worst list . edit/open\n");
+    printf("file outcome read . check . solve . open . edit-mean edit-worst list . edit/open facts wrong\n");
     for (int i = 1; i < count; i++) {
         FILE *in = fopen(path[i], "rb");
         if (in == NULL)
@@ -156,7 +165,7 @@ int main(int count, char **path) {
         measured(solving);
         double open = measured(opening), edit = measured_edits();
         measured(listing);
-        printf(" %.4f\n", edit / open);
+        printf(" %.4f %zu %zu\n", edit / open, (size_t)task[ZP_AT_FACTS], wrong_facts());
         fflush(stdout);
     }
     return 0;

@@ -1,0 +1,81 @@
+"""The tasks that are timed: made by the second program and here, stored in benchmark/hard, or climbed to."""
+
+import re
+import shutil
+
+from times import CLIMB, HERE, LIMIT, OUT, SECOND, library_times, said
+from to_asp import BODY
+
+TASKS = OUT / "tasks"
+CLIMBED = OUT / "climbed"
+STORED = HERE / "hard"
+KEPT = 8  # how many are stored
+
+
+def tasks_in(folder):
+    return sorted(folder.glob("*.task"))
+
+
+def made(seed):
+    shutil.rmtree(TASKS, ignore_errors=True)
+    said(SECOND, "hard", "--seed", seed, TASKS)
+    hardest = max(TASKS.glob("deep-*"), key=tree)
+    (TASKS / f"worst-64-facts-tree-{tree(hardest)}.task").write_bytes(on_all_facts(hardest.read_bytes()))
+    (TASKS / "worst-file.task").write_bytes(largest_file())
+    return tasks_in(TASKS)
+
+
+def climbed(seconds, seed):
+    """Single facts that the library is slow on, found in so many seconds, and what climb.c prints: a line for each, the
+    slowest first, and how much was tried."""
+    shutil.rmtree(CLIMBED, ignore_errors=True)
+    CLIMBED.mkdir()
+    lines = said(CLIMB, "--seconds", seconds, "--seed", seed, CLIMBED).decode().splitlines()
+    (CLIMBED / "listing.txt").write_text("\n".join(lines) + "\n")
+    return tasks_in(CLIMBED), lines
+
+
+def store_hardest():
+    """The hardest of the stored and the climbed tasks become the stored ones; of two from one start, the harder."""
+    STORED.mkdir(exist_ok=True)
+    paths = tasks_in(STORED) + tasks_in(CLIMBED)
+    library = library_times(paths)
+    paths.sort(key=lambda p: library[p]["solve"])
+    files = {p.name: p.read_bytes() for p in paths}
+    names = list(dict.fromkeys(p.name for p in reversed(paths)))[:KEPT]
+    for p in tasks_in(STORED):
+        p.unlink()
+    for name in names:
+        (STORED / name).write_bytes(files[name])
+
+
+def on_all_facts(file):
+    """A task of one fact, with that fact's cells for each of 64 facts: each row is as hard as the one."""
+    at, out = 0, b""
+    while at < len(file):
+        record = file[at : at + 1 + BODY[file[at]]]
+        at += len(record)
+        if record[0] == 1:
+            out += bytes([1, 64]) + record[2:]
+        elif 2 <= record[0] <= 6:
+            out += b"".join(record[:-1] + bytes([fact]) for fact in range(64))
+        else:
+            out += record
+    return out
+
+
+def largest_file():
+    """All cells present, 64 steps: 18,821 bytes."""
+    cells = [bytes([kind, f]) for kind in (2, 3) for f in range(64)]
+    cells += [bytes([kind, a, f]) for kind in (4, 5, 6) for a in range(32) for f in range(64)]
+    return bytes([1, 64, 32, LIMIT]) + b"".join(cells) + bytes([7, 31]) * 64 + b"\x08"
+
+
+def tree(path):
+    found = re.search(r"tree-(\d+)", path.name)
+    return int(found[1]) if found else 0
+
+
+def title(path):
+    """How the tables name a task."""
+    return re.sub(r"-tree-\d+", "", path.stem) + (" (not stored)" if path.parent == CLIMBED else "")
