@@ -14,8 +14,8 @@ use Rattle.table.specs.declared.Reply.{Reply}
 use Rattle.taskfile.specs.Reading.{ReadsFile}
 use Rattle.taskfile.specs.Records.{recordAt}
 use Rattle.taskwriter.specs.Writing.{written}
-use Rattle.boundary.specs.Words.{taskIn, lentBack}
-use Rattle.boundary.specs.Answers.{Answers, changedLength, replyLength, checkedLength, recordLength, answerMost, changedWords, replyWords, checkedWords, recordWords, taskAnswer}
+use Rattle.taskwords.specs.Words.{taskIn, lentBack}
+use Rattle.taskwords.specs.Answers.{Answers, changedLength, replyLength, checkedLength, recordLength, answerMost, changedWords, replyWords, checkedWords, recordWords, taskAnswer}
 
 -- Nothing but the room for the answer is lent to be written.
 abbrev pub Nothing : Type 0

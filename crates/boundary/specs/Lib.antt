@@ -1,4 +1,2 @@
 -- What the contracts of `boundary` cite.
-pub mod Words
-pub mod Answers
 pub mod BoundaryCalls

@@ -1,21 +1,6 @@
 // The boundary: every public call as an `extern "C"` function on numbers and slices, for callers in C and in Rust
 // (docs/BOUNDARY.md). A task crosses as 166 words, an answer as words in lent room; where that room is too short nothing
 // is called, and the answer is 255. A task that a call changes is lent in and out.
-mod answer;
-mod words;
-
-use answer::ANSWER_TOO_SHORT;
-use answer::CHANGED_WORDS;
-use answer::CHECKED_WORDS;
-use answer::RECORD_WORDS;
-use answer::REPLY_WORDS;
-use answer::TASK_ANSWER_WORDS;
-use answer::give_back;
-use answer::give_changed;
-use answer::give_checked;
-use answer::give_record;
-use answer::give_reply;
-use answer::give_task;
 use change::apply::apply;
 use listing::listing;
 use runcheck::check_run;
@@ -26,9 +11,30 @@ use session::open;
 use solve::solve;
 use taskfile::read;
 use taskfile::record::record_at;
+use taskwords::answer::give_back;
+use taskwords::answer::give_changed;
+use taskwords::answer::give_checked;
+use taskwords::answer::give_record;
+use taskwords::answer::give_reply;
+use taskwords::answer::give_task;
+use taskwords::words::TASK_WORDS;
+use taskwords::words::task_in;
 use taskwriter::write;
-use words::task_in;
 ghost use Rattle.boundary.specs.BoundaryCalls.{HandsRecord, ReadsTask, WritesTask, ChecksRun, AppliesList, SolvesTask, OpensSession, EditsSession, ListsSession, ListsInput};
+
+// The boundary's own number: the answer's room is too short, and nothing was called.
+const ANSWER_TOO_SHORT: usize = 255;
+
+// How many words each answer has.
+const CHANGED_WORDS: usize = 2;
+
+const REPLY_WORDS: usize = 3;
+
+const CHECKED_WORDS: usize = 5;
+
+const RECORD_WORDS: usize = 6;
+
+const TASK_ANSWER_WORDS: usize = TASK_WORDS + 2;
 
 // The record at a place of the file; its body is `length` bytes of the file from `start` on.
 #[no_mangle]

@@ -7,10 +7,10 @@ use mathlib.Core.Path.{_≡_, sym, ap, _∙_}
 use Prim.Native.Nat.{ℕ, _<_, _≤_}
 use native.Mathlib.Omega.{arith}
 use lib.ListN.{length, getD, drop}
-use Rattle.boundary.proofs.AnsweringLaws.{answers-refused, answers-said}
+use Rattle.taskwords.proofs.AnsweringLaws.{answers-refused, answers-said}
 use Rattle.boundary.proofs.Called.{ZpRecordGives, zp-record-gives, zp-record-asks-nothing, ZpReadGives, zp-read-gives, zp-read-asks-nothing, ZpWriteGives, zp-write-gives, zp-write-asks-nothing, ZpCheckGives, zp-check-gives, zp-check-asks-nothing, ZpApplyGives, zp-apply-gives, zp-apply-asks-nothing, ZpSolveGives, zp-solve-gives, zp-solve-asks-nothing, ZpOpenGives, zp-open-gives, zp-open-asks-nothing, ZpEditGives, zp-edit-gives, zp-edit-asks-nothing, ZpListGives, zp-list-gives, zp-list-asks-nothing, ZpListingGives, zp-listing-gives, zp-listing-asks-nothing}
-use Rattle.boundary.proofs.LendingLaws.{lent-back-kept}
-use Rattle.boundary.proofs.RoundTrip.{other-length}
+use Rattle.taskwords.proofs.LendingLaws.{lent-back-kept}
+use Rattle.taskwords.proofs.RoundTrip.{other-length}
 use Rattle.boundary.proofs.zp_apply.Reads as zp-apply
 use Rattle.boundary.proofs.zp_check.Reads as zp-check
 use Rattle.boundary.proofs.zp_edit.Reads as zp-edit
@@ -21,9 +21,9 @@ use Rattle.boundary.proofs.zp_read.Reads as zp-read
 use Rattle.boundary.proofs.zp_record.Reads as zp-record
 use Rattle.boundary.proofs.zp_solve.Reads as zp-solve
 use Rattle.boundary.proofs.zp_write.Reads as zp-write
-use Rattle.boundary.specs.Answers.{Answers, changedLength, changedWords, checkedWords, taskAnswer}
+use Rattle.taskwords.specs.Answers.{Answers, changedLength, changedWords, checkedWords, taskAnswer}
 use Rattle.boundary.specs.BoundaryCalls.{AnswersReply, HandsRecord, ReadsTask, WritesTask, ChecksRun, AppliesList, SolvesTask, OpensSession, EditsSession, ListsSession, ListsInput}
-use Rattle.boundary.specs.Words.{taskIn, lentBack}
+use Rattle.taskwords.specs.Words.{taskIn, lentBack}
 use Rattle.change.proofs.ApplyLaws.{applies-unformed, applies-unique}
 use Rattle.change.specs.Applying.{firstWrong}
 use Rattle.change.specs.Editing.{cellInside}

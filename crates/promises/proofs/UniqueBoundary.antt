@@ -5,11 +5,11 @@ use mathlib.Core.List.{List}
 use mathlib.Core.Path.{_≡_, refl, sym, ap, _∙_}
 use Prim.Native.Nat.{ℕ}
 use denote.Ref.{RefT, now}
-use Rattle.boundary.proofs.AnsweringLaws.{answers-one}
+use Rattle.taskwords.proofs.AnsweringLaws.{answers-one}
 use Rattle.boundary.proofs.Called.{ZpRecordGives, zp-record-gives, ZpReadGives, zp-read-gives, ZpWriteGives, zp-write-gives, ZpCheckGives, zp-check-gives, ZpApplyGives, zp-apply-gives, ZpSolveGives, zp-solve-gives, ZpOpenGives, zp-open-gives, ZpEditGives, zp-edit-gives, ZpListGives, zp-list-gives, ZpListingGives, zp-listing-gives}
-use Rattle.boundary.specs.Answers.{Answers, changedWords, replyWords, checkedWords, recordWords, taskAnswer}
+use Rattle.taskwords.specs.Answers.{Answers, changedWords, replyWords, checkedWords, recordWords, taskAnswer}
 use Rattle.boundary.specs.BoundaryCalls.{Nothing, AnswersOutcome, HandsRecord, ReadsTask, WritesTask, ChecksRun, AppliesList, SolvesTask, OpensSession, EditsSession, ListsSession, ListsInput}
-use Rattle.boundary.specs.Words.{taskIn, lentBack}
+use Rattle.taskwords.specs.Words.{taskIn, lentBack}
 use Rattle.change.proofs.ApplyLaws.{applies-unique}
 use Rattle.change.specs.Applying.{Applies}
 use Rattle.table.specs.declared.TaskReply.{TaskReply}

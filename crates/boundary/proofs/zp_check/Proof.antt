@@ -1,9 +1,9 @@
 -- `zp_check`: the room first, then what the run check gives.
 use native.Mathlib.Omega.{arith}
-use Rattle.boundary.proofs.AnsweringLaws.{answers-short, answers-given}
+use Rattle.taskwords.proofs.AnsweringLaws.{answers-short, answers-given}
 use mathlib.Core.Path.{ap, _∙_}
 use Rattle.runcheck.specs.OpenNeeds.{checked}
-use Rattle.boundary.specs.Answers.{checkedWords}
+use Rattle.taskwords.specs.Answers.{checkedWords}
 use Rattle.boundary.specs.BoundaryCalls.{ChecksRun}
 use borrow.Author.Needs.{needs}
 use Rattle.boundary.proofs.zp_check.Statement.{statement}

@@ -1,8 +1,8 @@
 -- `zp_read`: the room first, then what reading the file gives.
 use native.Mathlib.Omega.{arith}
-use Rattle.boundary.proofs.AnsweringLaws.{answers-short, answers-given}
+use Rattle.taskwords.proofs.AnsweringLaws.{answers-short, answers-given}
 use mathlib.Core.Path.{refl}
-use Rattle.boundary.specs.Answers.{taskAnswer}
+use Rattle.taskwords.specs.Answers.{taskAnswer}
 use Rattle.boundary.specs.BoundaryCalls.{ReadsTask}
 use borrow.Author.Needs.{needs}
 use Rattle.boundary.proofs.zp_read.Statement.{statement}

@@ -1,8 +1,8 @@
 -- `zp_record`: the room first, then what the record reader gives.
 use native.Mathlib.Omega.{arith}
-use Rattle.boundary.proofs.AnsweringLaws.{answers-short, answers-given}
+use Rattle.taskwords.proofs.AnsweringLaws.{answers-short, answers-given}
 use mathlib.Core.Path.{ap}
-use Rattle.boundary.specs.Answers.{recordWords}
+use Rattle.taskwords.specs.Answers.{recordWords}
 use Rattle.boundary.specs.BoundaryCalls.{HandsRecord}
 use borrow.Author.Needs.{needs}
 use Rattle.boundary.proofs.zp_record.Statement.{statement}

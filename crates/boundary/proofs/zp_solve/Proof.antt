@@ -2,9 +2,9 @@
 use borrow.Author.Needs.{needs}
 use native.Mathlib.Omega.{arith}
 use mathlib.Core.Path.{refl}
-use Rattle.boundary.specs.Answers.{replyWords}
+use Rattle.taskwords.specs.Answers.{replyWords}
 use Rattle.boundary.specs.BoundaryCalls.{SolvesTask}
-use Rattle.boundary.proofs.AnsweringLaws.{answers-short, answers-given}
+use Rattle.taskwords.proofs.AnsweringLaws.{answers-short, answers-given}
 use Rattle.boundary.proofs.zp_solve.Statement.{statement}
 use Rattle.boundary.proofs.zp_solve.Tie as tie
 

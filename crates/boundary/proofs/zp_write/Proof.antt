@@ -1,8 +1,8 @@
 -- `zp_write`: the room first, then what writing the file gives.
 use native.Mathlib.Omega.{arith}
-use Rattle.boundary.proofs.AnsweringLaws.{answers-short, answers-given}
+use Rattle.taskwords.proofs.AnsweringLaws.{answers-short, answers-given}
 use mathlib.Core.Path.{refl}
-use Rattle.boundary.specs.Answers.{replyWords}
+use Rattle.taskwords.specs.Answers.{replyWords}
 use Rattle.boundary.specs.BoundaryCalls.{WritesTask}
 use borrow.Author.Needs.{needs}
 use Rattle.boundary.proofs.zp_write.Statement.{statement}

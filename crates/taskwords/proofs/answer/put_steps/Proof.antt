@@ -1,0 +1,62 @@
+-- `put_steps` places its array word by word.
+use borrow.Author.Needs.{needs}
+use native.Mathlib.Omega.{arith}
+use Prim.Native.Nat.{_-_}
+use Rattle.table.specs.Sizes.{maxSteps}
+use Rattle.room.proofs.Gathering.{Gathering, next-fits, one-more, length-kept}
+use Rattle.taskwords.proofs.PuttingLaws.{wordOf, words-begun, words-placed}
+use Rattle.taskwords.proofs.answer.put_steps.Statement.{statement}
+use Rattle.taskwords.proofs.answer.put_steps.Tie as tie
+
+abbrev Inv-loop : tie.InvT-loop
+Inv-loop answer₀ at steps next₀ i₀ answer next i = Gathering (wordOf steps) maxSteps answer₀ answer at next i
+
+abbrev μ-loop : tie.MeasureT-loop
+μ-loop answer₀ at steps next₀ i₀ answer next i = maxSteps - i
+
+loop-holds : tie.Need-loop-holds Inv-loop μ-loop
+loop-holds c = words-begun (c .before .args .t3) maxSteps (search needs) _ _ (search needs)
+
+array-read-wide : tie.Need-array-read-wide Inv-loop μ-loop
+array-read-wide c = search needs
+
+wide-requires : tie.Need-wide-requires Inv-loop μ-loop
+wide-requires c κs = search needs
+
+put-requires : tie.Need-put-requires Inv-loop μ-loop
+put-requires c κs = omega (arith, next-fits (c .before .before .before .loop .inv) (search needs))
+
+add-i : tie.Need-add-i Inv-loop μ-loop
+add-i c = omega arith
+
+loop-less : tie.Need-loop-less Inv-loop μ-loop
+loop-less c = omega arith
+
+loop-again : tie.Need-loop-again Inv-loop μ-loop
+loop-again c =
+    let d = c .before .before in
+    let wide = d .before in
+    let z = wide .before .before in
+    one-more (z .before .loop .inv) (z .loop-test .taken) (rw (wide .wide .ensures) at (d .put .ensures))
+
+same-length : tie.Need-same-length Inv-loop μ-loop
+same-length c = length-kept (c .before .loop .inv)
+
+returns : tie.Need-returns Inv-loop μ-loop
+returns c = words-placed _ _ (search needs) (c .before .loop .inv) (c .loop-test .left)
+
+pub put-steps-spec : {M : Type 1} → statement M
+put-steps-spec =
+    tie.close
+    (tie.spec
+    Inv-loop
+    μ-loop
+    loop-holds
+    array-read-wide
+    wide-requires
+    put-requires
+    add-i
+    loop-less
+    loop-again
+    same-length
+    returns)

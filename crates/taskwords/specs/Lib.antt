@@ -1,0 +1,3 @@
+-- What the contracts of `taskwords` cite.
+pub mod Words
+pub mod Answers
