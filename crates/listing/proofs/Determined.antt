@@ -12,10 +12,10 @@ use Rattle.table.specs.Outcomes.{Outcome, answered, given}
 use Rattle.solve.proofs.SolveLaws.{solve-unique}
 use Rattle.table.specs.declared.TaskReply.{TaskReply}
 use Rattle.taskfile.proofs.Unique.{reads-unique}
-use Rattle.listing.specs.Text.{textOf, longestText}
+use Rattle.text.specs.Text.{textOf, longestText}
 use Rattle.listing.specs.Listing.{answerRoom, Lists, ListsInto}
-use Rattle.listing.proofs.TextLaws.{solved-fits}
-use Rattle.listing.proofs.TextLength.{text-most}
+use Rattle.listing.proofs.TellingLaws.{solved-fits}
+use Rattle.text.proofs.TextLength.{text-most}
 
 pub text-unique : {input text other : List ℕ} → Lists input text → Lists input other → text ≡ other
 text-unique a b =

@@ -7,9 +7,9 @@ use Rattle.table.specs.declared.Task.{Task}
 use Rattle.runcheck.specs.declared.Checked.{Checked}
 use Rattle.table.specs.Outcomes.{refused, answered}
 use Rattle.taskfile.specs.Reading.{acceptedRead, refusedRead}
-use Rattle.listing.specs.Ascii.{bytesOf}
+use Rattle.text.specs.Ascii.{bytesOf}
 use Rattle.listing.specs.Listing.{answerRoom}
-use Rattle.listing.specs.Text.{digits, each, line, readText, textOf}
+use Rattle.text.specs.Text.{digits, each, line, readText, textOf}
 
 -- Four facts, three actions, limit three, three steps (the masks are not shown); two open needs, the first at step 3, fact 1.
 abbrev pub sized : Task

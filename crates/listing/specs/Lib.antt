@@ -1,4 +1,2 @@
 -- What a listing promises.
-pub mod Ascii
-pub mod Text
 pub mod Listing

@@ -9,7 +9,7 @@ use Rattle.solve.specs.Solving.{Solves}
 use Rattle.table.specs.Outcomes.{Outcome, given}
 use Rattle.taskfile.specs.Reading.{ReadsFile}
 use Rattle.table.specs.declared.TaskReply.{TaskReply}
-use Rattle.listing.specs.Text.{textOf}
+use Rattle.text.specs.Text.{textOf}
 
 -- Room for the longest answer there can be.
 abbrev pub answerRoom : List ℕ

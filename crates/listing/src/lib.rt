@@ -1,20 +1,17 @@
 // The listing of an input: its text, written into lent room (document 01, "The listing").
-mod fields;
-mod lines;
-
-use lines::whole;
 use runcheck::Checked;
 use table::LIMIT;
 use table::Reply;
 use table::TaskReply;
 use table::refusals::ACCEPTED;
 use table::refusals::ROOM_TOO_SHORT;
+use text::lines::whole;
 ghost use mathlib.Core.Path.{_≡_};
 ghost use Prim.Native.Nat.{_≤_};
 ghost use lib.ListN.{length};
 ghost use Rattle.table.specs.Sizes.{maxLimit};
 ghost use Rattle.table.specs.Outcomes.{Outcome, given};
-ghost use Rattle.listing.specs.Text.{textOf, longestText};
+ghost use Rattle.text.specs.Text.{textOf, longestText};
 ghost use Rattle.listing.specs.Listing.{ListsInto};
 
 // Room that every listing fits in.

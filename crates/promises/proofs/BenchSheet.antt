@@ -13,9 +13,9 @@ use Rattle.change.specs.Editing.{edited, setCell, cellInside}
 use Rattle.change.specs.declared.Edit.{Edit}
 use Rattle.facts.specs.Sets.{has, within, joined, removed, only}
 use Rattle.listing.proofs.Determined.{listing-unique}
-use Rattle.listing.specs.Ascii.{bytesOf}
+use Rattle.text.specs.Ascii.{bytesOf}
 use Rattle.listing.specs.Listing.{ListsInto, answerRoom}
-use Rattle.listing.specs.Text.{textOf, readText, line, each, digits}
+use Rattle.text.specs.Text.{textOf, readText, line, each, digits}
 use Rattle.runcheck.specs.OpenNeeds.{openNeeds, checked, openReport, totalOpen, firstOpen, lowestOpen, openAt, isOpen}
 use Rattle.runcheck.specs.declared.Checked.{Checked}
 use Rattle.session.proofs.CallLaws.{edit-clear}

@@ -8,7 +8,7 @@ use Prim.Native.String.{String}
 use lib.ListN.{length}
 use Rattle.change.specs.declared.Cell.the-variants.{Delete}
 use Rattle.change.specs.declared.Edit.{Edit}
-use Rattle.listing.specs.Ascii.{bytesOf}
+use Rattle.text.specs.Ascii.{bytesOf}
 use Rattle.listing.specs.Listing.{ListsInto}
 use Rattle.table.specs.Outcomes.{refused, given}
 use Rattle.runcheck.specs.OpenNeeds.{openNeeds, refusedCheck, checked}

@@ -9,7 +9,7 @@ use lib.Seq.{take-all}
 use Rattle.table.specs.Outcomes.{Outcome}
 use Rattle.taskfile.specs.Lengths.{programRoom}
 use Rattle.listing.specs.Listing.{Lists, ListsInto}
-use Rattle.listing.specs.Text.{longestText}
+use Rattle.text.specs.Text.{longestText}
 use Rattle.listing.proofs.CutLaws.{text-cut}
 use Rattle.listing.proofs.Determined.{text-unique, always-listed}
 use Rattle.zernoplysk.specs.Printing.{Prints}

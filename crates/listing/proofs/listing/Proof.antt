@@ -1,6 +1,6 @@
 -- `listing`: read, checked, solved and told.
 use native.Mathlib.Omega.{arith}
-use Rattle.listing.proofs.TextLaws.{solved-fits, listed}
+use Rattle.listing.proofs.TellingLaws.{solved-fits, listed}
 use borrow.Author.Needs.{needs}
 use Rattle.listing.proofs.listing.Statement.{statement}
 use Rattle.listing.proofs.listing.Tie as tie

@@ -2,8 +2,8 @@
 use native.Mathlib.Omega.{arith}
 use Rattle.table.proofs.OutcomeLaws.{refused-told, given-short}
 use Rattle.table.specs.Refusals.{roomTooShort}
-use Rattle.listing.specs.Text.{textOf}
-use Rattle.listing.proofs.TextLaws.{told-whole}
+use Rattle.text.specs.Text.{textOf}
+use Rattle.listing.proofs.TellingLaws.{told-whole}
 use borrow.Author.Needs.{needs}
 use Rattle.listing.proofs.tell.Statement.{statement}
 use Rattle.listing.proofs.tell.Tie as tie
