@@ -11,7 +11,7 @@ use Rattle.session.specs.EditNumbers.{editOf}
 use Rattle.solve.specs.Solving.{Solves}
 use Rattle.table.specs.Outcomes.{Outcome}
 use Rattle.table.specs.declared.Reply.{Reply}
-use Rattle.taskfile.specs.Reading.{ReadsFile}
+use Rattle.taskformat.specs.Reading.{ReadsFile}
 use Rattle.taskfile.specs.Records.{recordAt}
 use Rattle.taskwriter.specs.Writing.{written}
 use Rattle.taskwords.specs.Words.{taskIn, lentBack}

@@ -5,10 +5,10 @@ use mathlib.Core.Logic.{_↔_}
 use Prim.Native.Nat.{ℕ}
 use lib.ListN.{take}
 use Rattle.table.specs.Outcomes.{Outcome}
-use Rattle.taskfile.specs.Lengths.{programRoom}
-use Rattle.taskfile.specs.Reading.{ReadsFile}
+use Rattle.taskformat.specs.Lengths.{programRoom}
+use Rattle.taskformat.specs.Reading.{ReadsFile}
 use Rattle.table.specs.declared.TaskReply.{TaskReply}
-use Rattle.taskfile.proofs.FilesAreTasks.{cut-decides}
+use Rattle.taskformat.proofs.FilesAreTasks.{cut-decides}
 use Rattle.listing.specs.Listing.{Lists, ListsInto}
 
 -- What is read alike is listed alike.

@@ -11,7 +11,7 @@ use Rattle.solve.specs.Solving.{Solves}
 use Rattle.table.specs.Outcomes.{Outcome, answered, given}
 use Rattle.solve.proofs.SolveLaws.{solve-unique}
 use Rattle.table.specs.declared.TaskReply.{TaskReply}
-use Rattle.taskfile.proofs.Unique.{reads-unique}
+use Rattle.taskformat.proofs.Unique.{reads-unique}
 use Rattle.text.specs.Text.{textOf, longestText}
 use Rattle.listing.specs.Listing.{answerRoom, Lists, ListsInto}
 use Rattle.listing.proofs.TellingLaws.{solved-fits}

@@ -6,7 +6,7 @@ use Rattle.table.specs.Refusals.{accepted, bytesAfterEnd, overTheLimit, notWell
 use Rattle.table.specs.declared.Task.{Task}
 use Rattle.runcheck.specs.declared.Checked.{Checked}
 use Rattle.table.specs.Outcomes.{refused, answered}
-use Rattle.taskfile.specs.Reading.{acceptedRead, refusedRead}
+use Rattle.taskformat.specs.Reading.{acceptedRead, refusedRead}
 use Rattle.text.specs.Ascii.{bytesOf}
 use Rattle.listing.specs.Listing.{answerRoom}
 use Rattle.text.specs.Text.{digits, each, line, readText, textOf}

@@ -17,7 +17,7 @@ use Rattle.room.proofs.PlacingLaws.{placed-whole}
 use Rattle.runcheck.specs.OpenNeeds.{checked}
 use Rattle.runcheck.specs.declared.Checked.{Checked}
 use Rattle.solve.specs.Solving.{told, Solves}
-use Rattle.taskfile.specs.Reading.{ReadsFile}
+use Rattle.taskformat.specs.Reading.{ReadsFile}
 use Rattle.text.specs.Text.{textOf}
 use Rattle.listing.specs.Listing.{answerRoom, ListsInto}
 

@@ -7,7 +7,7 @@ use Rattle.table.specs.Sizes.{maxLimit}
 use Rattle.runcheck.specs.OpenNeeds.{checked}
 use Rattle.solve.specs.Solving.{Solves}
 use Rattle.table.specs.Outcomes.{Outcome, given}
-use Rattle.taskfile.specs.Reading.{ReadsFile}
+use Rattle.taskformat.specs.Reading.{ReadsFile}
 use Rattle.table.specs.declared.TaskReply.{TaskReply}
 use Rattle.text.specs.Text.{textOf}
 

@@ -31,9 +31,9 @@ use Rattle.table.specs.Tasks.{cellsOf, courseOf, formed, WellFormed}
 use Rattle.table.specs.declared.Reply.{Reply}
 use Rattle.table.specs.declared.Task.{Task}
 use Rattle.table.specs.declared.TaskReply.{TaskReply}
-use Rattle.taskfile.proofs.FilesAreTasks.{accepted-exactly, accepted-read}
-use Rattle.taskfile.specs.Format.{fileOf}
-use Rattle.taskfile.specs.Reading.{Seen, noTask, faultsAt, Reads, ReadsFile, faulty, good, ended, trailing}
+use Rattle.taskformat.proofs.FilesAreTasks.{accepted-exactly, accepted-read}
+use Rattle.taskformat.specs.Format.{fileOf}
+use Rattle.taskformat.specs.Reading.{Seen, noTask, faultsAt, Reads, ReadsFile, faulty, good, ended, trailing}
 use Rattle.taskfile.specs.Records.{recordFault, recordAt, wholeRecord, refusedRecord}
 use Rattle.taskfile.specs.declared.record.Record.{Record}
 use Rattle.taskwriter.specs.Writing.{written}

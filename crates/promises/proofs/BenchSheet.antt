@@ -39,11 +39,11 @@ use Rattle.table.specs.Sizes.{maxFacts}
 use Rattle.table.specs.Strips.{stateAt}
 use Rattle.table.specs.Tasks.{cellsOf, courseOf, formed, sizesFormed, maskFormed, actionFormed, stepFormed, WellFormed}
 use Rattle.table.specs.declared.Task.{Task}
-use Rattle.taskfile.proofs.Function.{reads-total}
-use Rattle.taskfile.proofs.Unique.{reads-unique}
-use Rattle.taskfile.specs.Computed.{readFrom, readFile}
-use Rattle.taskfile.specs.Format.{isKind, fileOrder, firstPlace, positionOf, isCellKind, isFactKind, bodyLength}
-use Rattle.taskfile.specs.Reading.{ReadsFile, refusedRead, acceptedRead, noTask, bodyAt, misplaced, sizesWrong, outside, disordered, placeOf, faultsAt, tableAfter, runAfter, seenAfter}
+use Rattle.taskformat.proofs.Function.{reads-total}
+use Rattle.taskformat.proofs.Unique.{reads-unique}
+use Rattle.taskformat.specs.Computed.{readFrom, readFile}
+use Rattle.taskformat.specs.Format.{isKind, fileOrder, firstPlace, positionOf, isCellKind, isFactKind, bodyLength}
+use Rattle.taskformat.specs.Reading.{ReadsFile, refusedRead, acceptedRead, noTask, bodyAt, misplaced, sizesWrong, outside, disordered, placeOf, faultsAt, tableAfter, runAfter, seenAfter}
 use Rattle.table.specs.declared.TaskReply.{TaskReply}
 use Rattle.promises.proofs.CertificateLaws.{certified-well, certified-only}
 use Rattle.promises.specs.Determined.{Only}

@@ -40,8 +40,8 @@ use Rattle.table.specs.Outcomes.{Outcome, refusal, refused}
 use Rattle.table.specs.Tasks.{cellsOf, formed, WellFormed}
 use Rattle.table.specs.declared.Reply.{Reply}
 use Rattle.table.specs.declared.Task.{Task}
-use Rattle.taskfile.specs.Format.{fileOf}
-use Rattle.taskfile.specs.Reading.{noTask}
+use Rattle.taskformat.specs.Format.{fileOf}
+use Rattle.taskformat.specs.Reading.{noTask}
 use Rattle.taskwriter.proofs.WritingLaws.{written-unformed}
 use Rattle.promises.proofs.Demands.{Refused}
 use Rattle.promises.proofs.BadInputLaws.{Listed, bad-file, read-number, record-number, check-malformed, check-number, apply-number, open-number, edit-number, bad-list, open-refused, edit-refused, write-fair, solve-fair, list-fair, listing-fair}

@@ -59,13 +59,13 @@ use Rattle.table.specs.Tasks.{cellsOf, courseOf, WorksFor, formed, WellFormed, 
 use Rattle.table.specs.declared.Reply.{Reply}
 use Rattle.table.specs.declared.Task.{Task}
 use Rattle.taskfile.proofs.Called.{record-asks-nothing, body-asks-nothing, ReadGives, read-gives, read-asks-nothing}
-use Rattle.taskfile.proofs.FilesAreTasks.{accepted-read, one-task, cut-decides}
-use Rattle.taskfile.proofs.Unique.{reads-unique}
+use Rattle.taskformat.proofs.FilesAreTasks.{accepted-read, one-task, cut-decides}
+use Rattle.taskformat.proofs.Unique.{reads-unique}
 use Rattle.taskfile.proofs.read.Reads as read
 use Rattle.taskfile.proofs.record.body_at.Reads as body-at
 use Rattle.taskfile.proofs.record.record_at.Reads as record-at
-use Rattle.taskfile.specs.Format.{fileOf}
-use Rattle.taskfile.specs.Reading.{acceptedRead}
+use Rattle.taskformat.specs.Format.{fileOf}
+use Rattle.taskformat.specs.Reading.{acceptedRead}
 use Rattle.taskwriter.proofs.Called.{WriteGives, write-gives, write-asks-nothing}
 use Rattle.taskwriter.proofs.WritingLaws.{written-unformed, written-file}
 use Rattle.taskwriter.proofs.write.Reads as write

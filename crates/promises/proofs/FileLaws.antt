@@ -11,11 +11,11 @@ use Rattle.table.specs.Outcomes.{Outcome, answered}
 use Rattle.table.specs.Tasks.{WellFormed}
 use Rattle.table.specs.declared.Task.{Task}
 use Rattle.taskfile.proofs.Called.{ReadGives, read-gives}
-use Rattle.taskfile.proofs.FileIsAccepted.{file-accepted}
-use Rattle.taskfile.proofs.FilesAreTasks.{accepted-exactly, accepted-read}
-use Rattle.taskfile.proofs.Unique.{reads-unique}
-use Rattle.taskfile.specs.Format.{fileOf}
-use Rattle.taskfile.specs.Reading.{acceptedRead, ReadsFile}
+use Rattle.taskformat.proofs.FileIsAccepted.{file-accepted}
+use Rattle.taskformat.proofs.FilesAreTasks.{accepted-exactly, accepted-read}
+use Rattle.taskformat.proofs.Unique.{reads-unique}
+use Rattle.taskformat.specs.Format.{fileOf}
+use Rattle.taskformat.specs.Reading.{acceptedRead, ReadsFile}
 use Rattle.table.specs.declared.TaskReply.{TaskReply}
 use Rattle.taskwriter.proofs.Called.{WriteGives, write-gives}
 use Rattle.taskwriter.proofs.WritingLaws.{written-short, written-file}

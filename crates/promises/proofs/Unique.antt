@@ -22,7 +22,7 @@ use Rattle.table.specs.Tasks.{formed}
 use Rattle.table.specs.declared.Reply.{Reply}
 use Rattle.table.specs.declared.Task.{Task}
 use Rattle.taskfile.proofs.Called.{RecordGives, record-gives, BodyGives, body-gives, ReadGives, read-gives}
-use Rattle.taskfile.proofs.Unique.{reads-unique}
+use Rattle.taskformat.proofs.Unique.{reads-unique}
 use Rattle.taskfile.specs.Records.{recordAt, bodyOf}
 use Rattle.taskwriter.proofs.Called.{WriteGives, write-gives}
 use Rattle.taskwriter.specs.Writing.{written}

@@ -23,7 +23,7 @@ use Rattle.session.specs.Calls.{Opens, Edits, listed}
 use Rattle.session.specs.EditNumbers.{editOf}
 use Rattle.solve.proofs.SolveLaws.{solve-unique}
 use Rattle.table.specs.Outcomes.{Outcome}
-use Rattle.taskfile.proofs.Unique.{reads-unique}
+use Rattle.taskformat.proofs.Unique.{reads-unique}
 use Rattle.taskfile.specs.Records.{recordAt, bodyOf}
 use Rattle.taskwriter.specs.Writing.{written}
 use Rattle.promises.specs.Determined.{Determined}

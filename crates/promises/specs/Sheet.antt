@@ -1,5 +1,5 @@
 -- The bench sheet of document 01 as one table: the starred rows, 1 to 11, in the words of the calls' contracts and with the paper's own
--- numbers, and beside them the run check of their tasks and of row 12's; and 01's table of refusals by small files. The tasks are in table/specs/Bench, the files in taskfile/specs/BenchFiles.
+-- numbers, and beside them the run check of their tasks and of row 12's; and 01's table of refusals by small files. The tasks are in table/specs/Bench, the files in taskformat/specs/BenchFiles.
 use mathlib.Core.Bool.{false}
 use mathlib.Core.List.{List, [], _∷_}
 use mathlib.Core.Path.{_≡_}
@@ -23,8 +23,8 @@ use Rattle.table.specs.Sizes.{maxLimit}
 use Rattle.table.specs.Tasks.{WorksFor}
 use Rattle.table.specs.declared.Reply.{Reply}
 use Rattle.table.specs.declared.Task.{Task}
-use Rattle.taskfile.specs.BenchFiles.{listingFile, withoutEnd, byteAppended, strayStep}
-use Rattle.taskfile.specs.Reading.{ReadsFile, refusedRead, acceptedRead}
+use Rattle.taskformat.specs.BenchFiles.{listingFile, withoutEnd, byteAppended, strayStep}
+use Rattle.taskformat.specs.Reading.{ReadsFile, refusedRead, acceptedRead}
 use Rattle.promises.specs.Determined.{Only}
 
 infixr 20 _and_

@@ -9,7 +9,7 @@ use Rattle.table.specs.Contracts.{Call, AsksNothing}
 use Rattle.taskfile.proofs.record.record_at.Reads as record-at
 use Rattle.taskfile.proofs.record.body_at.Reads as body-at
 use Rattle.taskfile.proofs.read.Reads as read
-use Rattle.taskfile.specs.Reading.{ReadsFile}
+use Rattle.taskformat.specs.Reading.{ReadsFile}
 use Rattle.taskfile.specs.Records.{recordAt, bodyOf}
 use Rattle.table.specs.declared.TaskReply.{TaskReply}
 use Rattle.taskfile.specs.declared.record.Record.{Record}

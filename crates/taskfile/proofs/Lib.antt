@@ -1,23 +1,4 @@
--- What other crates cite of `taskfile`: the theorems about the task file.
-pub mod PositionLaws
+-- The laws of reading a task file, and what a call gives.
 pub mod RecordLaws
 pub mod ReaderLaws
-pub mod Unique
-pub mod Function
-pub mod Clear
-pub mod Ranks
-pub mod Families
-pub mod Fitting
-pub mod OneMore
-pub mod RecordsAfter
-pub mod Standing
-pub mod FirstRecord
-pub mod AcceptedIsFile
-pub mod SameTask
-pub mod GoodRecord
-pub mod NextRecord
-pub mod FileIsAccepted
-pub mod FileLength
-pub mod Cut
-pub mod FilesAreTasks
 pub mod Called

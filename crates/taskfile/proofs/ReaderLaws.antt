@@ -11,13 +11,13 @@ use Rattle.table.proofs.RefusalLaws.{first-placed}
 use Rattle.table.specs.Refusals.{refuseAt, firstOf, accepted, sizeOutside, numberOutside, notAscending, tooManySteps}
 use Rattle.table.specs.Sizes.{maxSteps}
 use Rattle.table.specs.Setting.{setIn}
-use Rattle.taskfile.specs.Format.{sizesKind, startKind, goalKind, needKind, addKind, deleteKind, stepKind}
-use Rattle.taskfile.specs.Reading.{Seen, kindAt, byteAt, bodyAt, sizesWrong, outside, misplaced, disordered, placeOf, faultsAt, faultAt, tableAfter, runAfter, seenAfter}
+use Rattle.taskformat.specs.Format.{sizesKind, startKind, goalKind, needKind, addKind, deleteKind, stepKind}
+use Rattle.taskformat.specs.Reading.{Seen, kindAt, byteAt, bodyAt, sizesWrong, outside, misplaced, disordered, placeOf, faultsAt, faultAt, tableAfter, runAfter, seenAfter}
 use Rattle.taskfile.specs.Records.{seenWith, seenOf, knownOf, bodyFaults}
 use Rattle.taskfile.specs.declared.seen.Known.{Known}
 use Rattle.table.specs.Tasks.{Shaped}
-use Rattle.taskfile.proofs.Clear.{Clear}
-use Rattle.taskfile.proofs.OneMore.{taskAfter, shaped-after}
+use Rattle.taskformat.proofs.Clear.{Clear}
+use Rattle.taskformat.proofs.OneMore.{taskAfter, shaped-after}
 
 -- A fault is at the place that its number has.
 pub fault-place : (s : List ℕ) (at : ℕ) (seen : Seen) → faultAt s at seen .place ≡ placeOf (faultAt s at seen .number) s at seen

@@ -7,8 +7,8 @@ use borrow.Author.Tests.{le-leb, lt-leb, lt-ltb, le-ltb, leb-true, leb-false, lt
 use lib.Dec.{leb, ltb}
 use lib.ListN.{length}
 use Rattle.table.specs.Refusals.{firstOf, noEnd, unknownKind}
-use Rattle.taskfile.specs.Format.{isKind}
-use Rattle.taskfile.specs.Reading.{kindAt, nextAt}
+use Rattle.taskformat.specs.Format.{isKind}
+use Rattle.taskformat.specs.Reading.{kindAt, nextAt}
 use Rattle.taskfile.specs.Records.{recordFault, recordAt, refusedRecord, wholeRecord}
 use Rattle.taskfile.specs.declared.record.Record.{Record}
 

@@ -1,7 +1,2 @@
--- The task file: document 01, "The task file" and "Refusal numbers".
-pub mod Format
-pub mod Reading
+-- What the record reader gives, and the words of the inner functions.
 pub mod Records
-pub mod Computed
-pub mod Lengths
-pub mod BenchFiles

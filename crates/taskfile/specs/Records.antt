@@ -6,8 +6,8 @@ use Prim.Native.Nat.{ℕ, _+_}
 use lib.Dec.{eqb, leb, ltb}
 use lib.ListN.{length, take, drop}
 use Rattle.table.specs.Refusals.{Check, Refusal, refuseAt, firstOf, accepted, noEnd, unknownKind}
-use Rattle.taskfile.specs.Format.{isKind, bodyLength}
-use Rattle.taskfile.specs.Reading.{kindAt, nextAt, Seen, faultsAt}
+use Rattle.taskformat.specs.Format.{isKind, bodyLength}
+use Rattle.taskformat.specs.Reading.{kindAt, nextAt, Seen, faultsAt}
 use Rattle.taskfile.specs.declared.record.Record.{Record}
 use Rattle.taskfile.specs.declared.seen.Known.{Known}
 

@@ -10,7 +10,7 @@ use table::STEPS;
 use table::refusals;
 ghost use mathlib.Core.Path.{_≡_};
 ghost use Rattle.table.specs.Refusals.{firstOf};
-ghost use Rattle.taskfile.specs.Reading.{misplaced, sizesWrong, outside, disordered, placeOf, faultAt};
+ghost use Rattle.taskformat.specs.Reading.{misplaced, sizesWrong, outside, disordered, placeOf, faultAt};
 ghost use Rattle.taskfile.specs.Records.{seenOf, bodyFaults};
 
 // The first fault of a record: its number and its place; 0 and 0 where it is good.

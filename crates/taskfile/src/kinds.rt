@@ -1,6 +1,6 @@
 // The kinds of record and the length of each kind's body (document 01, "The task file").
 ghost use mathlib.Core.Path.{_≡_};
-ghost use Rattle.taskfile.specs.Format.{isKind, positionOf, isCellKind, isFactKind, bodyLength};
+ghost use Rattle.taskformat.specs.Format.{isKind, positionOf, isCellKind, isFactKind, bodyLength};
 
 // Before the first record.
 pub const NONE: usize = 0;

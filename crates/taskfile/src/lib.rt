@@ -19,8 +19,8 @@ use table::Task;
 use table::TaskReply;
 use table::refusals;
 ghost use mathlib.Core.Path.{_≡_};
-ghost use Rattle.taskfile.specs.Lengths.{programRoom};
-ghost use Rattle.taskfile.specs.Reading.{ReadsFile, acceptedRead, refusedRead, noTask};
+ghost use Rattle.taskformat.specs.Lengths.{programRoom};
+ghost use Rattle.taskformat.specs.Reading.{ReadsFile, acceptedRead, refusedRead, noTask};
 ghost use Rattle.taskfile.specs.Records.{seenWith};
 
 // How much of a file the program reads: longer than any file is, so that later bytes can't alter its answer (document 01,

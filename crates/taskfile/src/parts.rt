@@ -1,7 +1,7 @@
 // The bytes of the record at a place, total: past the end they are 0, as the definitions have them.
 use crate::kinds::is_cell_kind;
 ghost use mathlib.Core.Path.{_≡_};
-ghost use Rattle.taskfile.specs.Reading.{kindAt, byteAt, bodyAt};
+ghost use Rattle.taskformat.specs.Reading.{kindAt, byteAt, bodyAt};
 
 // How many values a byte has.
 const BYTE: usize = 256;

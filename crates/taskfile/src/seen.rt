@@ -10,7 +10,7 @@ ghost use lib.ListN.{length, set};
 ghost use Rattle.table.specs.Refusals.{accepted};
 ghost use Rattle.table.specs.Setting.{setIn};
 ghost use Rattle.table.specs.Sizes.{maxActions, maxSteps};
-ghost use Rattle.taskfile.specs.Reading.{nothingSeen, seenAfter, faultAt};
+ghost use Rattle.taskformat.specs.Reading.{nothingSeen, seenAfter, faultAt};
 ghost use Rattle.taskfile.specs.Records.{seenOf, knownOf};
 
 // All but the arrays: the sizes, the start and goal sets, how many steps, and the last record's kind and body.

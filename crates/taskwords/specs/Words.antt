@@ -9,7 +9,7 @@ use Rattle.table.specs.Sizes.{maxActions, maxSteps}
 use Rattle.table.specs.declared.Run.{Run}
 use Rattle.table.specs.declared.Table.{Table}
 use Rattle.table.specs.declared.Task.{Task}
-use Rattle.taskfile.specs.Reading.{noTask}
+use Rattle.taskformat.specs.Reading.{noTask}
 
 -- How many words the table, the run and the task have.
 abbrev pub tableWords : ℕ

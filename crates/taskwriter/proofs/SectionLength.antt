@@ -6,9 +6,9 @@ use native.Mathlib.Omega.{arith}
 use lib.ListN.{length, length-append}
 use Rattle.table.specs.Tasks.{WellFormed}
 use Rattle.table.specs.declared.Task.{Task}
-use Rattle.taskfile.specs.Format.{startKind, goalKind, needKind, addKind, deleteKind, endKind, factRecords, cellRecords, stepRecords, fileOf}
-use Rattle.taskfile.specs.Lengths.{longestFile}
-use Rattle.taskfile.proofs.FileLength.{file-length}
+use Rattle.taskformat.specs.Format.{startKind, goalKind, needKind, addKind, deleteKind, endKind, factRecords, cellRecords, stepRecords, fileOf}
+use Rattle.taskformat.specs.Lengths.{longestFile}
+use Rattle.taskformat.proofs.FileLength.{file-length}
 use Rattle.taskwriter.specs.Pieces.{throughGoals, throughCells}
 
 -- The file, with the sections through the last cell as one.

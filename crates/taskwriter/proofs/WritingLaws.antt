@@ -12,7 +12,7 @@ use Rattle.table.specs.Outcomes.{Outcome, refused, answered, given}
 use Rattle.table.specs.Refusals.{accepted, roomTooShort, notWellFormed}
 use Rattle.table.specs.Tasks.{formed}
 use Rattle.table.specs.declared.Task.{Task}
-use Rattle.taskfile.specs.Format.{fileOf}
+use Rattle.taskformat.specs.Format.{fileOf}
 use Rattle.taskwriter.specs.Writing.{written}
 
 module _ (t : Task) (room : List ℕ) where

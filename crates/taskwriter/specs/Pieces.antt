@@ -4,7 +4,7 @@ use Prim.Native.Nat.{ℕ}
 use Rattle.facts.specs.Sets.{has}
 use Rattle.table.specs.Lists.{gather, piece}
 use Rattle.table.specs.declared.Task.{Task}
-use Rattle.taskfile.specs.Format.{sizesKind, startKind, goalKind, needKind, addKind, deleteKind, factRecords, cellRecords}
+use Rattle.taskformat.specs.Format.{sizesKind, startKind, goalKind, needKind, addKind, deleteKind, factRecords, cellRecords}
 
 abbrev pub factRecord : ℕ → ℕ → ℕ → List ℕ
 factRecord kind set f = piece (has set f) (kind ∷ f ∷ [])

@@ -7,7 +7,7 @@ use Rattle.table.specs.Outcomes.{Outcome, refused, given}
 use Rattle.table.specs.Refusals.{notWellFormed}
 use Rattle.table.specs.Tasks.{formed}
 use Rattle.table.specs.declared.Task.{Task}
-use Rattle.taskfile.specs.Format.{fileOf}
+use Rattle.taskformat.specs.Format.{fileOf}
 
 -- 12, then 11; else the file.
 unfoldable pub written : Task → List ℕ → Outcome

@@ -14,7 +14,7 @@ use room::put_word;
 use table::Task;
 ghost use Rattle.table.specs.Tasks.{WellFormed};
 ghost use Rattle.room.specs.Placing.{Placed};
-ghost use Rattle.taskfile.specs.Format.{fileOf};
+ghost use Rattle.taskformat.specs.Format.{fileOf};
 ghost use Rattle.taskwriter.specs.Pieces.{sizesOf, throughGoals, throughCells};
 
 fn sizes(task: Task, room: &mut [u8]) -> usize

@@ -13,7 +13,7 @@ ghost use mathlib.Core.Path.{_≡_};
 ghost use lib.ListN.{length};
 ghost use Rattle.table.specs.Outcomes.{Outcome};
 ghost use Rattle.table.specs.Tasks.{WellFormed};
-ghost use Rattle.taskfile.specs.Format.{fileOf};
+ghost use Rattle.taskformat.specs.Format.{fileOf};
 ghost use Rattle.taskwriter.specs.Writing.{written};
 
 // How long the task's file is: written where there is next to no room, it is only counted.

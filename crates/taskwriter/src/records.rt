@@ -8,7 +8,7 @@ ghost use lib.ListN.{length};
 ghost use Rattle.facts.specs.Sets.{has};
 ghost use Rattle.table.specs.Lists.{piece};
 ghost use Rattle.table.specs.Sizes.{maxFacts, maxActions, maxSteps};
-ghost use Rattle.taskfile.specs.Format.{factRecords, cellRecords, stepRecords};
+ghost use Rattle.taskformat.specs.Format.{factRecords, cellRecords, stepRecords};
 ghost use Rattle.room.specs.Placing.{lastPlace, Placed};
 ghost use Rattle.taskwriter.specs.Pieces.{actionRecords};
 

@@ -7,7 +7,7 @@ use native.Mathlib.Omega.{arith}
 use lib.ListN.{length, take, drop, length-append, length-take}
 use lib.Seq.{take-all}
 use Rattle.table.specs.Outcomes.{Outcome}
-use Rattle.taskfile.specs.Lengths.{programRoom}
+use Rattle.taskformat.specs.Lengths.{programRoom}
 use Rattle.listing.specs.Listing.{Lists, ListsInto}
 use Rattle.text.specs.Text.{longestText}
 use Rattle.listing.proofs.CutLaws.{text-cut}

@@ -9,11 +9,11 @@ use denote.Ref.{now}
 use lib.ListN.{length}
 use Rattle.table.specs.Refusals.{Refusal, bytesAfterEnd}
 use Rattle.table.specs.Tasks.{Shaped}
-use Rattle.taskfile.specs.Format.{bodyLength}
-use Rattle.taskfile.specs.Reading.{Seen, Reads, faulty, good, ended, trailing, ReadsFile, kindAt, nextAt, faultAt, refusedRead}
+use Rattle.taskformat.specs.Format.{bodyLength}
+use Rattle.taskformat.specs.Reading.{Seen, Reads, faulty, good, ended, trailing, ReadsFile, kindAt, nextAt, faultAt, refusedRead}
 use Rattle.taskfile.specs.Records.{seenOf, seenWith}
 use Rattle.table.specs.declared.TaskReply.{TaskReply}
-use Rattle.taskfile.proofs.Clear.{Clear, clear}
+use Rattle.taskformat.proofs.Clear.{Clear, clear}
 use Rattle.taskfile.proofs.ReaderLaws.{numbers-decide, one-more, shaped-next}
 use Rattle.taskfile.proofs.read.Statement.{statement}
 use Rattle.taskfile.proofs.read.Tie as tie

@@ -3,7 +3,7 @@ use mathlib.Core.Path.{_≡_, sym, ap, _∙_}
 use Prim.Native.Nat.{ℕ}
 use borrow.Author.Needs.{needs}
 use denote.Ref.{now}
-use Rattle.taskfile.specs.Reading.{placeOf}
+use Rattle.taskformat.specs.Reading.{placeOf}
 use Rattle.taskfile.specs.Records.{seenOf}
 use Rattle.taskfile.proofs.ReaderLaws.{fault-place}
 use Rattle.taskfile.proofs.fault.fault_at.Statement.{statement}

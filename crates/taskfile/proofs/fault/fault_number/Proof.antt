@@ -8,8 +8,8 @@ use native.Mathlib.Omega.{arith}
 use denote.Ref.{now}
 use lib.ListN.{length}
 use Rattle.table.specs.Refusals.{Check, Refusal, firstOf}
-use Rattle.taskfile.specs.Format.{isKind, bodyLength}
-use Rattle.taskfile.specs.Reading.{kindAt, nextAt, misplaced, faultsAt}
+use Rattle.taskformat.specs.Format.{isKind, bodyLength}
+use Rattle.taskformat.specs.Reading.{kindAt, nextAt, misplaced, faultsAt}
 use Rattle.taskfile.specs.Records.{seenOf, bodyFaults}
 use Rattle.table.proofs.RefusalLaws.{Past}
 use Rattle.taskfile.proofs.fault.fault_number.Statement.{statement}

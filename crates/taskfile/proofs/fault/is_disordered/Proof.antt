@@ -1,6 +1,6 @@
 -- `taskfile::fault::is_disordered` meets its contract. Assumes nothing.
 use borrow.Author.Needs.{needs}
-use Rattle.taskfile.specs.Reading.{disordered}
+use Rattle.taskformat.specs.Reading.{disordered}
 use Rattle.taskfile.proofs.fault.is_disordered.Statement.{statement}
 use Rattle.taskfile.proofs.fault.is_disordered.Tie as tie
 

@@ -1,6 +1,6 @@
 -- `taskfile::fault::is_misplaced` meets its contract. Assumes nothing.
 use borrow.Author.Tests.{eq-eqb, ne-eqb}
-use Rattle.taskfile.specs.Reading.{misplaced}
+use Rattle.taskformat.specs.Reading.{misplaced}
 use Rattle.taskfile.proofs.fault.is_misplaced.Statement.{statement}
 use Rattle.taskfile.proofs.fault.is_misplaced.Tie as tie
 

@@ -1,6 +1,6 @@
 -- `taskfile::fault::is_outside` meets its contract. Assumes nothing.
 use borrow.Author.Needs.{needs}
-use Rattle.taskfile.specs.Reading.{outside}
+use Rattle.taskformat.specs.Reading.{outside}
 use Rattle.taskfile.proofs.fault.is_outside.Statement.{statement}
 use Rattle.taskfile.proofs.fault.is_outside.Tie as tie
 

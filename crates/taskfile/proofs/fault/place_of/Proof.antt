@@ -1,6 +1,6 @@
 -- `taskfile::fault::place_of` meets its contract. Assumes nothing.
 use borrow.Author.Tests.{eq-eqb, ne-eqb}
-use Rattle.taskfile.specs.Reading.{placeOf}
+use Rattle.taskformat.specs.Reading.{placeOf}
 use Rattle.taskfile.proofs.fault.place_of.Statement.{statement}
 use Rattle.taskfile.proofs.fault.place_of.Tie as tie
 

@@ -1,6 +1,6 @@
 -- `taskfile::fault::sizes_wrong` meets its contract. Assumes nothing.
 use borrow.Author.Needs.{needs}
-use Rattle.taskfile.specs.Reading.{sizesWrong}
+use Rattle.taskformat.specs.Reading.{sizesWrong}
 use Rattle.taskfile.proofs.fault.sizes_wrong.Statement.{statement}
 use Rattle.taskfile.proofs.fault.sizes_wrong.Tie as tie
 

@@ -2,7 +2,7 @@
 use mathlib.Core.Path.{sym, _∙_}
 use borrow.Author.Needs.{needs}
 use borrow.Author.Tests.{eq-eqb, ne-eqb}
-use Rattle.taskfile.specs.Format.{bodyLength}
+use Rattle.taskformat.specs.Format.{bodyLength}
 use Rattle.taskfile.proofs.kinds.body_length.Statement.{statement}
 use Rattle.taskfile.proofs.kinds.body_length.Tie as tie
 

@@ -1,6 +1,6 @@
 -- `taskfile::kinds::is_cell_kind` meets its contract. Assumes nothing.
 use borrow.Author.Needs.{needs}
-use Rattle.taskfile.specs.Format.{isCellKind}
+use Rattle.taskformat.specs.Format.{isCellKind}
 use Rattle.taskfile.proofs.kinds.is_cell_kind.Statement.{statement}
 use Rattle.taskfile.proofs.kinds.is_cell_kind.Tie as tie
 

@@ -1,6 +1,6 @@
 -- `taskfile::kinds::is_fact_kind` meets its contract. Assumes nothing.
 use borrow.Author.Needs.{needs}
-use Rattle.taskfile.specs.Format.{isFactKind}
+use Rattle.taskformat.specs.Format.{isFactKind}
 use Rattle.taskfile.proofs.kinds.is_fact_kind.Statement.{statement}
 use Rattle.taskfile.proofs.kinds.is_fact_kind.Tie as tie
 

@@ -1,6 +1,6 @@
 -- `taskfile::kinds::is_kind` meets its contract. Assumes nothing.
 use borrow.Author.Needs.{needs}
-use Rattle.taskfile.specs.Format.{isKind}
+use Rattle.taskformat.specs.Format.{isKind}
 use Rattle.taskfile.proofs.kinds.is_kind.Statement.{statement}
 use Rattle.taskfile.proofs.kinds.is_kind.Tie as tie
 

@@ -3,8 +3,8 @@ use mathlib.Core.Path.{_≡_, refl, sym}
 use Prim.Native.Nat.{ℕ, zero, suc, _≤_}
 use borrow.Author.Needs.{needs}
 use native.Mathlib.Omega.{arith}
-use Rattle.taskfile.specs.Format.{endKind, fileOrder, firstPlace, positionOf}
-use Rattle.taskfile.proofs.PositionLaws.{no-position}
+use Rattle.taskformat.specs.Format.{endKind, fileOrder, firstPlace, positionOf}
+use Rattle.taskformat.proofs.PositionLaws.{no-position}
 use Rattle.taskfile.proofs.kinds.position.Statement.{statement}
 use Rattle.taskfile.proofs.kinds.position.Tie as tie
 

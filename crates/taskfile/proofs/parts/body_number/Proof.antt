@@ -2,8 +2,8 @@
 use mathlib.Core.Path.{_≡_, sym, ap, _∙_}
 use borrow.Author.Needs.{needs}
 use denote.Ref.{now}
-use Rattle.taskfile.specs.Format.{isCellKind}
-use Rattle.taskfile.specs.Reading.{kindAt, bodyAt}
+use Rattle.taskformat.specs.Format.{isCellKind}
+use Rattle.taskformat.specs.Reading.{kindAt, bodyAt}
 use Rattle.taskfile.proofs.parts.body_number.Statement.{statement}
 use Rattle.taskfile.proofs.parts.body_number.Tie as tie
 

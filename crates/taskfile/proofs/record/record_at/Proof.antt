@@ -7,8 +7,8 @@ use borrow.Author.Tests.{not-true, not-false}
 use native.Mathlib.Omega.{arith}
 use denote.Ref.{now}
 use lib.ListN.{length}
-use Rattle.taskfile.specs.Format.{isKind, bodyLength}
-use Rattle.taskfile.specs.Reading.{kindAt}
+use Rattle.taskformat.specs.Format.{isKind, bodyLength}
+use Rattle.taskformat.specs.Reading.{kindAt}
 use Rattle.taskfile.proofs.RecordLaws.{past-the-end, unknown, cut-short, whole}
 use Rattle.taskfile.proofs.record.record_at.Statement.{statement}
 use Rattle.taskfile.proofs.record.record_at.Tie as tie

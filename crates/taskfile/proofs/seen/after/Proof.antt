@@ -4,7 +4,7 @@ use borrow.Author.Needs.{needs}
 use native.Mathlib.Omega.{arith}
 use denote.Ref.{now}
 use Rattle.taskfile.specs.Records.{seenOf}
-use Rattle.taskfile.proofs.Clear.{clear}
+use Rattle.taskformat.proofs.Clear.{clear}
 use Rattle.taskfile.proofs.ReaderLaws.{has-room, after-sizes, after-start, after-goal, after-step, after-cell}
 use Rattle.taskfile.proofs.seen.after.Statement.{statement}
 use Rattle.taskfile.proofs.seen.after.Tie as tie

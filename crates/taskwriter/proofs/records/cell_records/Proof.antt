@@ -3,7 +3,7 @@ use lib.ListN.{getD}
 use Prim.Native.Nat.{_-_}
 use native.Mathlib.Omega.{arith}
 use borrow.Author.Needs.{needs}
-use Rattle.taskfile.specs.Format.{cellRecords}
+use Rattle.taskformat.specs.Format.{cellRecords}
 use Rattle.taskwriter.specs.Pieces.{actionRecords}
 use Rattle.room.proofs.Gathering.{Gathering, begun, next-fits, one-more, all-placed, length-kept}
 use Rattle.taskwriter.proofs.records.cell_records.Statement.{statement}

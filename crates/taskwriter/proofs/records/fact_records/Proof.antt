@@ -3,7 +3,7 @@ use Prim.Native.Nat.{_-_}
 use native.Mathlib.Omega.{arith}
 use borrow.Author.Needs.{needs}
 use Rattle.room.proofs.Gathering.{Gathering, begun, next-fits, one-more, all-placed, length-kept}
-use Rattle.taskfile.specs.Format.{factRecords}
+use Rattle.taskformat.specs.Format.{factRecords}
 use Rattle.taskwriter.specs.Pieces.{factRecord}
 use Rattle.taskwriter.proofs.records.fact_records.Statement.{statement}
 use Rattle.taskwriter.proofs.records.fact_records.Tie as tie

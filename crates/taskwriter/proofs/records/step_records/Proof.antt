@@ -4,7 +4,7 @@ use lib.ListN.{getD}
 use Prim.Native.Nat.{_-_}
 use native.Mathlib.Omega.{arith}
 use borrow.Author.Needs.{needs}
-use Rattle.taskfile.specs.Format.{stepKind, stepRecords}
+use Rattle.taskformat.specs.Format.{stepKind, stepRecords}
 use Rattle.room.proofs.Gathering.{Gathering, begun, next-fits, one-more, all-placed, length-kept}
 use Rattle.taskwriter.proofs.records.step_records.Statement.{statement}
 use Rattle.taskwriter.proofs.records.step_records.Tie as tie

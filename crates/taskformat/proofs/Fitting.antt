@@ -10,11 +10,11 @@ use lib.ListN.{length}
 use Rattle.table.specs.Sizes.{maxSteps}
 use Rattle.table.specs.Tasks.{WellFormed}
 use Rattle.table.specs.declared.Task.{Task}
-use Rattle.taskfile.specs.Format.{bodyLength, sizesKind, startKind, goalKind, needKind, deleteKind, stepKind, endKind, isKind, isCellKind, positionOf}
-use Rattle.taskfile.specs.Reading.{byteRoom}
-use Rattle.taskfile.proofs.PositionLaws.{order, position-known, apart}
-use Rattle.taskfile.proofs.Ranks.{slots}
-use Rattle.taskfile.proofs.Families.{FactKind, CellKind, Family, ofNone, ofSizes, ofFact, ofCell, ofStep, family}
+use Rattle.taskformat.specs.Format.{bodyLength, sizesKind, startKind, goalKind, needKind, deleteKind, stepKind, endKind, isKind, isCellKind, positionOf}
+use Rattle.taskformat.specs.Reading.{byteRoom}
+use Rattle.taskformat.proofs.PositionLaws.{order, position-known, apart}
+use Rattle.taskformat.proofs.Ranks.{slots}
+use Rattle.taskformat.proofs.Families.{FactKind, CellKind, Family, ofNone, ofSizes, ofFact, ofCell, ofStep, family}
 
 -- A record after the first that is not the end, with its numbers inside the task's sizes.
 pub data Fits (t : Task) (k x y : ℕ) : Type 0 where

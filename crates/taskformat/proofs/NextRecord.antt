@@ -12,15 +12,15 @@ use Rattle.facts.specs.Sets.{has}
 use Rattle.facts.proofs.Laws.{has-empty}
 use Rattle.table.specs.Tasks.{WellFormed}
 use Rattle.table.specs.declared.Task.{Task}
-use Rattle.taskfile.specs.Format.{startKind, deleteKind, sizesKind, stepKind, positionOf}
-use Rattle.taskfile.specs.Reading.{byteRoom, Seen}
-use Rattle.taskfile.proofs.Ranks.{slots, rank, factSet, cellMask, factPiece, cellPiece, kindAtRank, pieceAt, rank-position, position-of, sizes-once, step-shape, some-step, no-step}
-use Rattle.taskfile.proofs.PositionLaws.{order}
-use Rattle.taskfile.proofs.Families.{FactKind, CellKind, Family, ofNone, ofSizes, ofFact, ofCell, ofStep, family}
-use Rattle.taskfile.proofs.Fitting.{Fits, factFits, cellFits, stepFits, fitted, slotOf, recordBytes, fact-bytes, cell-bytes, step-bytes}
+use Rattle.taskformat.specs.Format.{startKind, deleteKind, sizesKind, stepKind, positionOf}
+use Rattle.taskformat.specs.Reading.{byteRoom, Seen}
+use Rattle.taskformat.proofs.Ranks.{slots, rank, factSet, cellMask, factPiece, cellPiece, kindAtRank, pieceAt, rank-position, position-of, sizes-once, step-shape, some-step, no-step}
+use Rattle.taskformat.proofs.PositionLaws.{order}
+use Rattle.taskformat.proofs.Families.{FactKind, CellKind, Family, ofNone, ofSizes, ofFact, ofCell, ofStep, family}
+use Rattle.taskformat.proofs.Fitting.{Fits, factFits, cellFits, stepFits, fitted, slotOf, recordBytes, fact-bytes, cell-bytes, step-bytes}
 use Rattle.table.proofs.FlagLaws.{by-order}
-use Rattle.taskfile.proofs.Standing.{Standing}
-use Rattle.taskfile.proofs.SameTask.{SameSizes}
+use Rattle.taskformat.proofs.Standing.{Standing}
+use Rattle.taskformat.proofs.SameTask.{SameSizes}
 
 -- The sizes are the task's, and so are the records below rank r.
 pub record Agrees (t : Task) (seen : Seen) (r : ℕ) : Type 0 where

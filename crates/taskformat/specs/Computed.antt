@@ -6,8 +6,8 @@ use lib.Dec.{eqb, ltb}
 use lib.ListN.{length}
 use Rattle.table.specs.Refusals.{noEnd, bytesAfterEnd}
 use Rattle.table.specs.declared.TaskReply.{TaskReply}
-use Rattle.taskfile.specs.Format.{endKind}
-use Rattle.taskfile.specs.Reading.{Seen, nothingSeen, kindAt, nextAt, seenAfter, faultAt, refusedRead, acceptedRead}
+use Rattle.taskformat.specs.Format.{endKind}
+use Rattle.taskformat.specs.Reading.{Seen, nothingSeen, kindAt, nextAt, seenAfter, faultAt, refusedRead, acceptedRead}
 
 -- What reading s gives from a place on, with at most n records still to come. With none left the place is past the last byte.
 unfoldable pub readFrom : ℕ → List ℕ → ℕ → Seen → TaskReply

@@ -10,13 +10,13 @@ use Rattle.table.proofs.FlagLaws.{by-order}
 use Rattle.table.specs.Tasks.{WellFormed}
 use Rattle.table.specs.declared.Task.{Task}
 use Rattle.table.specs.declared.TaskReply.{TaskReply}
-use Rattle.taskfile.specs.Format.{fileOf}
-use Rattle.taskfile.specs.Lengths.{programRoom}
-use Rattle.taskfile.specs.Reading.{Seen, acceptedRead, Reads, ReadsFile, faulty, good, ended, trailing}
-use Rattle.taskfile.proofs.Unique.{reads-unique}
-use Rattle.taskfile.proofs.AcceptedIsFile.{accepted-file}
-use Rattle.taskfile.proofs.FileIsAccepted.{file-accepted}
-use Rattle.taskfile.proofs.Cut.{cut-reads}
+use Rattle.taskformat.specs.Format.{fileOf}
+use Rattle.taskformat.specs.Lengths.{programRoom}
+use Rattle.taskformat.specs.Reading.{Seen, acceptedRead, Reads, ReadsFile, faulty, good, ended, trailing}
+use Rattle.taskformat.proofs.Unique.{reads-unique}
+use Rattle.taskformat.proofs.AcceptedIsFile.{accepted-file}
+use Rattle.taskformat.proofs.FileIsAccepted.{file-accepted}
+use Rattle.taskformat.proofs.Cut.{cut-reads}
 
 -- A file is accepted as a task exactly if the task is well formed and it is that task's file.
 pub accepted-exactly : (s : List ℕ) (t : Task) → ReadsFile s (acceptedRead t) ↔ (WellFormed t × (s ≡ fileOf t))

@@ -16,10 +16,10 @@ use Rattle.table.specs.Tasks.{maskOf, WellFormed}
 use Rattle.table.specs.declared.Run.{Run}
 use Rattle.table.specs.declared.Table.{Table}
 use Rattle.table.specs.declared.Task.{Task}
-use Rattle.taskfile.specs.Format.{sizesKind, startKind, goalKind, needKind, addKind, deleteKind, stepKind, endKind, noKind, isKind, isCellKind, isFactKind, positionOf, kindIn, factRecords, cellRecords, stepRecords, fileOf}
-use Rattle.taskfile.specs.Reading.{byteRoom}
+use Rattle.taskformat.specs.Format.{sizesKind, startKind, goalKind, needKind, addKind, deleteKind, stepKind, endKind, noKind, isKind, isCellKind, isFactKind, positionOf, kindIn, factRecords, cellRecords, stepRecords, fileOf}
+use Rattle.taskformat.specs.Reading.{byteRoom}
 use Rattle.table.proofs.GatherLaws.{gather-same, gather-none, gather-digits, gather-next, gather-zero, gather-one}
-use Rattle.taskfile.proofs.PositionLaws.{position-known, kind-position, position-kind, none-first, in-order}
+use Rattle.taskformat.proofs.PositionLaws.{position-known, kind-position, position-kind, none-first, in-order}
 
 -- The places of one kind, enough for an action and a byte.
 abbrev pub slots : ℕ

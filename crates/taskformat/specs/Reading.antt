@@ -14,7 +14,7 @@ use Rattle.table.specs.declared.Task.{Task}
 use Rattle.table.specs.declared.Table.{Table}
 use Rattle.table.specs.declared.Run.{Run}
 use Rattle.table.specs.declared.TaskReply.{TaskReply}
-use Rattle.taskfile.specs.Format.{sizesKind, startKind, goalKind, needKind, addKind, deleteKind, stepKind, endKind, isKind, isCellKind, isFactKind, bodyLength, noKind, positionOf}
+use Rattle.taskformat.specs.Format.{sizesKind, startKind, goalKind, needKind, addKind, deleteKind, stepKind, endKind, isKind, isCellKind, isFactKind, bodyLength, noKind, positionOf}
 
 -- A task of zeros: what a refused read returns.
 abbrev pub noTask : Task

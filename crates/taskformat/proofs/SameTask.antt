@@ -15,11 +15,11 @@ use Rattle.table.specs.Lists.{piece}
 use Rattle.table.specs.Tasks.{WellFormed}
 use Rattle.table.specs.declared.Table.{Table}
 use Rattle.table.specs.declared.Task.{Task}
-use Rattle.taskfile.specs.Format.{startKind, goalKind, needKind, addKind, deleteKind, stepKind, endKind, isKind, isFactKind, isCellKind, positionOf}
-use Rattle.taskfile.specs.Reading.{byteRoom}
-use Rattle.taskfile.proofs.Ranks.{slots, ranks, rank, factSet, cellMask, factPiece, cellPiece, stepPiece, slotPiece, pieceAt, at-rank, some-step}
-use Rattle.taskfile.proofs.PositionLaws.{order}
-use Rattle.taskfile.proofs.Families.{FactKind, CellKind, start-kind, goal-kind, need-kind, add-kind, delete-kind}
+use Rattle.taskformat.specs.Format.{startKind, goalKind, needKind, addKind, deleteKind, stepKind, endKind, isKind, isFactKind, isCellKind, positionOf}
+use Rattle.taskformat.specs.Reading.{byteRoom}
+use Rattle.taskformat.proofs.Ranks.{slots, ranks, rank, factSet, cellMask, factPiece, cellPiece, stepPiece, slotPiece, pieceAt, at-rank, some-step}
+use Rattle.taskformat.proofs.PositionLaws.{order}
+use Rattle.taskformat.proofs.Families.{FactKind, CellKind, start-kind, goal-kind, need-kind, add-kind, delete-kind}
 
 -- The same sizes.
 pub record SameSizes (t q : Table) : Type 0 where

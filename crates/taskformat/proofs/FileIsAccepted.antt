@@ -11,21 +11,21 @@ use borrow.Author.Tests.{eqb-true, eqb-false, ne-eqb}
 use Rattle.table.specs.Lists.{gather}
 use Rattle.table.specs.Tasks.{WellFormed}
 use Rattle.table.specs.declared.Task.{Task}
-use Rattle.taskfile.specs.Format.{sizesKind, endKind, isCellKind, bodyLength, fileOf}
-use Rattle.taskfile.specs.Reading.{Seen, nothingSeen, kindAt, byteAt, bodyAt, nextAt, seenAfter, tableAfter, acceptedRead, Reads, ReadsFile, good, ended}
-use Rattle.taskfile.proofs.Clear.{faultless}
+use Rattle.taskformat.specs.Format.{sizesKind, endKind, isCellKind, bodyLength, fileOf}
+use Rattle.taskformat.specs.Reading.{Seen, nothingSeen, kindAt, byteAt, bodyAt, nextAt, seenAfter, tableAfter, acceptedRead, Reads, ReadsFile, good, ended}
+use Rattle.taskformat.proofs.Clear.{faultless}
 use Rattle.table.proofs.GatherLaws.{gather-more, gather-next}
-use Rattle.taskfile.proofs.Ranks.{slots, ranks, rank, pieceAt, file-by-rank, no-piece, first-piece, none-before, sizes-first}
-use Rattle.taskfile.proofs.PositionLaws.{order, apart}
-use Rattle.taskfile.proofs.Fitting.{Fitted, fitted, slotOf, record-length}
-use Rattle.taskfile.proofs.OneMore.{taskAfter}
-use Rattle.taskfile.proofs.RecordsAfter.{piece-after}
+use Rattle.taskformat.proofs.Ranks.{slots, ranks, rank, pieceAt, file-by-rank, no-piece, first-piece, none-before, sizes-first}
+use Rattle.taskformat.proofs.PositionLaws.{order, apart}
+use Rattle.taskformat.proofs.Fitting.{Fitted, fitted, slotOf, record-length}
+use Rattle.taskformat.proofs.OneMore.{taskAfter}
+use Rattle.taskformat.proofs.RecordsAfter.{piece-after}
 use Rattle.table.proofs.FlagLaws.{by-order}
-use Rattle.taskfile.proofs.Standing.{Standing, good-next}
-use Rattle.taskfile.proofs.FirstRecord.{bareTask, bareSeen, seen-first, stands-first}
-use Rattle.taskfile.proofs.GoodRecord.{clear-later, clear-end, clear-first}
-use Rattle.taskfile.proofs.NextRecord.{Agrees, Here, Look, absent, short, long, look}
-use Rattle.taskfile.proofs.SameTask.{same-task}
+use Rattle.taskformat.proofs.Standing.{Standing, good-next}
+use Rattle.taskformat.proofs.FirstRecord.{bareTask, bareSeen, seen-first, stands-first}
+use Rattle.taskformat.proofs.GoodRecord.{clear-later, clear-end, clear-first}
+use Rattle.taskformat.proofs.NextRecord.{Agrees, Here, Look, absent, short, long, look}
+use Rattle.taskformat.proofs.SameTask.{same-task}
 
 -- After the first record.
 agrees-first : (t : Task) (b : ℕ) → Agrees t (bareSeen (t .table .facts) (t .table .actions) (t .table .limit) b) (suc (rank sizesKind 0))

@@ -12,13 +12,13 @@ use Rattle.table.proofs.FlagLaws.{both, and-both}
 use Rattle.table.specs.Lists.{piece}
 use Rattle.table.specs.Tasks.{WellFormed}
 use Rattle.table.specs.declared.Task.{Task}
-use Rattle.taskfile.specs.Format.{sizesKind, needKind, deleteKind, stepKind, endKind, isKind, isFactKind, isCellKind, positionOf, kindIn}
-use Rattle.taskfile.specs.Reading.{byteRoom, tableAfter, runAfter}
-use Rattle.taskfile.proofs.Ranks.{slots, rank, factSet, cellMask, factPiece, cellPiece, stepPiece, slotPiece, kindAtRank, pieceAt, rank-position}
-use Rattle.taskfile.proofs.Families.{FactKind, CellKind, Family, ofNone, ofSizes, ofFact, ofCell, ofStep, family}
-use Rattle.taskfile.proofs.PositionLaws.{apart, kind-position}
-use Rattle.taskfile.proofs.Fitting.{Fitted, fitted-known, slotOf, recordBytes, fact-bytes, cell-bytes, step-bytes}
-use Rattle.taskfile.proofs.OneMore.{taskAfter, has-grown, same-sizes, masks-after, steps-after}
+use Rattle.taskformat.specs.Format.{sizesKind, needKind, deleteKind, stepKind, endKind, isKind, isFactKind, isCellKind, positionOf, kindIn}
+use Rattle.taskformat.specs.Reading.{byteRoom, tableAfter, runAfter}
+use Rattle.taskformat.proofs.Ranks.{slots, rank, factSet, cellMask, factPiece, cellPiece, stepPiece, slotPiece, kindAtRank, pieceAt, rank-position}
+use Rattle.taskformat.proofs.Families.{FactKind, CellKind, Family, ofNone, ofSizes, ofFact, ofCell, ofStep, family}
+use Rattle.taskformat.proofs.PositionLaws.{apart, kind-position}
+use Rattle.taskformat.proofs.Fitting.{Fitted, fitted-known, slotOf, recordBytes, fact-bytes, cell-bytes, step-bytes}
+use Rattle.taskformat.proofs.OneMore.{taskAfter, has-grown, same-sizes, masks-after, steps-after}
 
 -- A piece that stands where it stood or where a test holds; q is the rank of the new record.
 grown-piece : (h b : Bool) (l new old : List ℕ) (r q : ℕ) → (b ≡ true → (l ≡ new) × (r ≡ q)) → (r ≡ q → b ≡ true)

@@ -13,7 +13,7 @@ use Rattle.table.proofs.FlagLaws.{both, or-cases, by-order}
 use Rattle.table.proofs.GatherLaws.{gather-eight}
 use Rattle.table.specs.Counting.{everyBelow}
 use Rattle.table.specs.Lists.{gather}
-use Rattle.taskfile.specs.Format.{noKind, sizesKind, startKind, goalKind, needKind, addKind, deleteKind, stepKind, endKind, isKind, fileOrder, firstPlace, positionOf, kindIn}
+use Rattle.taskformat.specs.Format.{noKind, sizesKind, startKind, goalKind, needKind, addKind, deleteKind, stepKind, endKind, isKind, fileOrder, firstPlace, positionOf, kindIn}
 
 pub within-kinds : (k : ℕ) → isKind k ≡ true → (sizesKind ≤ k) × (k ≤ endKind)
 unfolding isKind

@@ -11,14 +11,14 @@ use lib.Dec.{eqb, leb, ltb}
 use borrow.Author.Tests.{lt-leb, le-ltb}
 use Rattle.table.specs.Refusals.{firstOf}
 use Rattle.table.specs.declared.TaskReply.{TaskReply}
-use Rattle.taskfile.specs.Format.{sizesKind, endKind, isCellKind, bodyLength}
-use Rattle.taskfile.specs.Reading.{Seen, kindAt, byteAt, bodyAt, nextAt, seenAfter, placeOf, faultsAt, faultAt, Reads, ReadsFile, faulty, good, ended, trailing}
-use Rattle.taskfile.specs.Lengths.{longestFile, programRoom}
-use Rattle.taskfile.proofs.Unique.{reads-unique}
-use Rattle.taskfile.proofs.Function.{reads-total}
-use Rattle.taskfile.proofs.Ranks.{slots, rank}
-use Rattle.taskfile.proofs.AcceptedIsFile.{Sofar, begun, going, sofar-next}
-use Rattle.taskfile.proofs.FileLength.{records-length}
+use Rattle.taskformat.specs.Format.{sizesKind, endKind, isCellKind, bodyLength}
+use Rattle.taskformat.specs.Reading.{Seen, kindAt, byteAt, bodyAt, nextAt, seenAfter, placeOf, faultsAt, faultAt, Reads, ReadsFile, faulty, good, ended, trailing}
+use Rattle.taskformat.specs.Lengths.{longestFile, programRoom}
+use Rattle.taskformat.proofs.Unique.{reads-unique}
+use Rattle.taskformat.proofs.Function.{reads-total}
+use Rattle.taskformat.proofs.Ranks.{slots, rank}
+use Rattle.taskformat.proofs.AcceptedIsFile.{Sofar, begun, going, sofar-next}
+use Rattle.taskformat.proofs.FileLength.{records-length}
 
 -- A record that has been come to starts within the longest file.
 sofar-early : {s : List ℕ} {at : ℕ} {seen : Seen} → Sofar s at seen → at < longestFile

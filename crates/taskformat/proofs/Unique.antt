@@ -4,7 +4,7 @@ use mathlib.Core.Path.{_≡_, sym, _∙_}
 use Prim.Native.Nat.{ℕ}
 use native.Mathlib.Omega.{arith}
 use Rattle.table.specs.declared.TaskReply.{TaskReply}
-use Rattle.taskfile.specs.Reading.{Seen, Reads, faulty, good, ended, trailing}
+use Rattle.taskformat.specs.Reading.{Seen, Reads, faulty, good, ended, trailing}
 
 pub reads-unique : {s : List ℕ} {r q : TaskReply} {at : ℕ} {seen : Seen} → Reads s r at seen → Reads s q at seen → r ≡ q
 reads-unique (faulty f e) (faulty _ d) = e ∙ sym d

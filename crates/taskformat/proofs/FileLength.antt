@@ -12,10 +12,10 @@ use Rattle.table.specs.Sizes.{maxFacts, maxActions, maxSteps}
 use Rattle.table.specs.Tasks.{WellFormed}
 use Rattle.table.specs.declared.Run.{Run}
 use Rattle.table.specs.declared.Task.{Task}
-use Rattle.taskfile.specs.Format.{startKind, goalKind, needKind, addKind, deleteKind, stepKind, endKind, factRecords, cellRecords, stepRecords, fileOf}
-use Rattle.taskfile.specs.Lengths.{longestFile}
+use Rattle.taskformat.specs.Format.{startKind, goalKind, needKind, addKind, deleteKind, stepKind, endKind, factRecords, cellRecords, stepRecords, fileOf}
+use Rattle.taskformat.specs.Lengths.{longestFile}
 use Rattle.table.proofs.GatherLaws.{gather-length, gather-more}
-use Rattle.taskfile.proofs.Ranks.{slots, ranks, pieceAt, file-by-rank}
+use Rattle.taskformat.proofs.Ranks.{slots, ranks, pieceAt, file-by-rank}
 
 piece-length : (b : Bool) (l : List ℕ) → length (piece b l) ≤ length l
 piece-length true l = omega arith

@@ -11,10 +11,10 @@ use Rattle.facts.specs.Sets.{joined, only}
 use Rattle.table.specs.Repairs.{byKind}
 use Rattle.table.specs.declared.Run.{Run}
 use Rattle.table.specs.declared.Task.{Task}
-use Rattle.taskfile.specs.Format.{sizesKind, startKind, goalKind, needKind, addKind, deleteKind, stepKind, endKind, isKind, isCellKind, isFactKind, bodyLength, positionOf}
-use Rattle.taskfile.specs.Reading.{runAfter}
-use Rattle.taskfile.proofs.PositionLaws.{within-kinds, order, position-known}
-use Rattle.taskfile.proofs.Ranks.{factSet, factPiece, cellPiece, slotPiece}
+use Rattle.taskformat.specs.Format.{sizesKind, startKind, goalKind, needKind, addKind, deleteKind, stepKind, endKind, isKind, isCellKind, isFactKind, bodyLength, positionOf}
+use Rattle.taskformat.specs.Reading.{runAfter}
+use Rattle.taskformat.proofs.PositionLaws.{within-kinds, order, position-known}
+use Rattle.taskformat.proofs.Ranks.{factSet, factPiece, cellPiece, slotPiece}
 
 -- Start or goal.
 pub record FactKind (k : ℕ) : Type 0 where

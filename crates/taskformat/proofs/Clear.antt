@@ -9,8 +9,8 @@ use lib.ListN.{length}
 use borrow.Author.Tests.{leb-false, ltb-false, not-false, lt-leb, le-ltb}
 use Rattle.table.proofs.RefusalLaws.{silent, accepts}
 use Rattle.table.specs.Sizes.{maxSteps}
-use Rattle.taskfile.specs.Format.{sizesKind, stepKind, isKind, bodyLength}
-use Rattle.taskfile.specs.Reading.{Seen, kindAt, byteAt, bodyAt, misplaced, sizesWrong, outside, disordered, faultsAt, faultAt}
+use Rattle.taskformat.specs.Format.{sizesKind, stepKind, isKind, bodyLength}
+use Rattle.taskformat.specs.Reading.{Seen, kindAt, byteAt, bodyAt, misplaced, sizesWrong, outside, disordered, faultsAt, faultAt}
 
 pub record Clear (s : List ℕ) (at : ℕ) (seen : Seen) : Type 0 where
   pub begun : at < length s

@@ -10,13 +10,13 @@ use borrow.Author.Tests.{eqb-true, ne-eqb, le-leb, lt-leb, lt-ltb, le-ltb}
 use Rattle.table.specs.Sizes.{maxFacts, maxActions, maxSteps, maxLimit}
 use Rattle.table.specs.Tasks.{WellFormed}
 use Rattle.table.specs.declared.Task.{Task}
-use Rattle.taskfile.specs.Format.{sizesKind, startKind, deleteKind, stepKind, endKind, noKind, isKind, isCellKind, isFactKind, bodyLength, positionOf}
-use Rattle.taskfile.specs.Reading.{Seen, nothingSeen, kindAt, byteAt, bodyAt, misplaced, sizesWrong, outside, disordered}
-use Rattle.taskfile.proofs.Clear.{Clear}
-use Rattle.taskfile.proofs.PositionLaws.{order, apart}
-use Rattle.taskfile.proofs.Ranks.{slots, rank}
-use Rattle.taskfile.proofs.Fitting.{Fits, factFits, cellFits, stepFits, Fitted, fitted, slotOf}
-use Rattle.taskfile.proofs.Standing.{Standing, some-kind, body-slot}
+use Rattle.taskformat.specs.Format.{sizesKind, startKind, deleteKind, stepKind, endKind, noKind, isKind, isCellKind, isFactKind, bodyLength, positionOf}
+use Rattle.taskformat.specs.Reading.{Seen, nothingSeen, kindAt, byteAt, bodyAt, misplaced, sizesWrong, outside, disordered}
+use Rattle.taskformat.proofs.Clear.{Clear}
+use Rattle.taskformat.proofs.PositionLaws.{order, apart}
+use Rattle.taskformat.proofs.Ranks.{slots, rank}
+use Rattle.taskformat.proofs.Fitting.{Fits, factFits, cellFits, stepFits, Fitted, fitted, slotOf}
+use Rattle.taskformat.proofs.Standing.{Standing, some-kind, body-slot}
 
 fits-inside : (t : Task) (k x y : ℕ) → Fits t k x y → outside (t .table) k x y ≡ false
 unfolding outside isFactKind isCellKind

@@ -13,15 +13,15 @@ use Rattle.table.specs.Tasks.{WellFormed}
 use Rattle.table.proofs.FlagLaws.{or-neither}
 use Rattle.table.specs.declared.Table.{Table}
 use Rattle.table.specs.declared.Task.{Task}
-use Rattle.taskfile.specs.Format.{noKind, sizesKind, startKind, deleteKind, stepKind, endKind, isKind, isCellKind, isFactKind, positionOf}
-use Rattle.taskfile.specs.Reading.{Seen, kindAt, byteAt, bodyAt, misplaced, outside, disordered, runAfter, seenAfter}
-use Rattle.taskfile.proofs.Ranks.{slots, rank, pieceAt}
-use Rattle.taskfile.proofs.PositionLaws.{order, position-known, apart, one-kind}
-use Rattle.taskfile.proofs.Families.{FactKind, CellKind, Family, ofNone, ofSizes, ofFact, ofCell, ofStep, family, family-between}
-use Rattle.taskfile.proofs.Fitting.{Fits, factFits, cellFits, stepFits, Fitted, fitted, fitted-known, before-steps, slotOf}
-use Rattle.taskfile.proofs.OneMore.{taskAfter, formed-after}
-use Rattle.taskfile.proofs.RecordsAfter.{piece-after}
-use Rattle.taskfile.proofs.Clear.{Clear}
+use Rattle.taskformat.specs.Format.{noKind, sizesKind, startKind, deleteKind, stepKind, endKind, isKind, isCellKind, isFactKind, positionOf}
+use Rattle.taskformat.specs.Reading.{Seen, kindAt, byteAt, bodyAt, misplaced, outside, disordered, runAfter, seenAfter}
+use Rattle.taskformat.proofs.Ranks.{slots, rank, pieceAt}
+use Rattle.taskformat.proofs.PositionLaws.{order, position-known, apart, one-kind}
+use Rattle.taskformat.proofs.Families.{FactKind, CellKind, Family, ofNone, ofSizes, ofFact, ofCell, ofStep, family, family-between}
+use Rattle.taskformat.proofs.Fitting.{Fits, factFits, cellFits, stepFits, Fitted, fitted, fitted-known, before-steps, slotOf}
+use Rattle.taskformat.proofs.OneMore.{taskAfter, formed-after}
+use Rattle.taskformat.proofs.RecordsAfter.{piece-after}
+use Rattle.taskformat.proofs.Clear.{Clear}
 
 -- The last record read is at this place within its kind, and the task has no record above it.
 pub record Standing (seen : Seen) (slot : ℕ) : Type 0 where

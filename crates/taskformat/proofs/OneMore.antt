@@ -17,12 +17,12 @@ use Rattle.table.specs.Repairs.{byKind, dropDelete, addEffect}
 use Rattle.table.specs.Sizes.{maxActions, maxSteps}
 use Rattle.table.specs.Tasks.{maskOf, Shaped, WellFormed}
 use Rattle.table.specs.declared.Task.{Task}
-use Rattle.taskfile.specs.Format.{sizesKind, startKind, goalKind, needKind, addKind, deleteKind, stepKind, positionOf}
-use Rattle.taskfile.specs.Reading.{tableAfter, runAfter}
+use Rattle.taskformat.specs.Format.{sizesKind, startKind, goalKind, needKind, addKind, deleteKind, stepKind, positionOf}
+use Rattle.taskformat.specs.Reading.{tableAfter, runAfter}
 use Rattle.table.proofs.Formation.{byKind-all}
-use Rattle.taskfile.proofs.Families.{CellKind, need-kind, add-kind, delete-kind}
-use Rattle.taskfile.proofs.Fitting.{Fitted}
-use Rattle.taskfile.proofs.PositionLaws.{order, apart}
+use Rattle.taskformat.proofs.Families.{CellKind, need-kind, add-kind, delete-kind}
+use Rattle.taskformat.proofs.Fitting.{Fitted}
+use Rattle.taskformat.proofs.PositionLaws.{order, apart}
 
 -- The task with one record more, of this kind and these bytes.
 unfoldable pub taskAfter : Task → ℕ → ℕ → ℕ → ℕ → Task

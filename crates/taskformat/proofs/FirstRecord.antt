@@ -15,14 +15,14 @@ use Rattle.table.specs.Tasks.{maskOf, WellFormed}
 use Rattle.table.proofs.FlagLaws.{both}
 use Rattle.table.proofs.Formation.{byKind-all}
 use Rattle.table.specs.declared.Task.{Task}
-use Rattle.taskfile.specs.Format.{sizesKind, startKind, deleteKind, stepKind}
-use Rattle.taskfile.specs.Reading.{byteRoom, Seen, noTask, nothingSeen, kindAt, byteAt, bodyAt, misplaced, sizesWrong, tableAfter, runAfter, seenAfter}
-use Rattle.taskfile.proofs.Ranks.{slots, rank, kindAtRank, pieceAt, position-of, factPiece, cellPiece, stepPiece, sizes-once, step-shape, no-step}
-use Rattle.taskfile.proofs.Families.{Family, ofNone, ofSizes, ofFact, ofCell, ofStep, family}
-use Rattle.taskfile.proofs.OneMore.{taskAfter}
-use Rattle.taskfile.proofs.Clear.{Clear}
-use Rattle.taskfile.proofs.PositionLaws.{order}
-use Rattle.taskfile.proofs.Standing.{Standing}
+use Rattle.taskformat.specs.Format.{sizesKind, startKind, deleteKind, stepKind}
+use Rattle.taskformat.specs.Reading.{byteRoom, Seen, noTask, nothingSeen, kindAt, byteAt, bodyAt, misplaced, sizesWrong, tableAfter, runAfter, seenAfter}
+use Rattle.taskformat.proofs.Ranks.{slots, rank, kindAtRank, pieceAt, position-of, factPiece, cellPiece, stepPiece, sizes-once, step-shape, no-step}
+use Rattle.taskformat.proofs.Families.{Family, ofNone, ofSizes, ofFact, ofCell, ofStep, family}
+use Rattle.taskformat.proofs.OneMore.{taskAfter}
+use Rattle.taskformat.proofs.Clear.{Clear}
+use Rattle.taskformat.proofs.PositionLaws.{order}
+use Rattle.taskformat.proofs.Standing.{Standing}
 
 pub first-kind : (k : ℕ) → misplaced nothingSeen k ≡ false → k ≡ sizesKind
 unfolding misplaced

@@ -11,18 +11,18 @@ use Rattle.table.specs.Lists.{gather}
 use Rattle.table.specs.Tasks.{WellFormed}
 use Rattle.table.specs.declared.Task.{Task}
 use Rattle.table.specs.declared.TaskReply.{TaskReply}
-use Rattle.taskfile.specs.Format.{sizesKind, endKind, isCellKind, bodyLength, fileOf}
-use Rattle.taskfile.specs.Reading.{Seen, nothingSeen, kindAt, byteAt, nextAt, tableAfter, seenAfter, faultAt, Reads, ReadsFile, faulty, good, ended, trailing}
-use Rattle.taskfile.proofs.Clear.{Clear, clear}
+use Rattle.taskformat.specs.Format.{sizesKind, endKind, isCellKind, bodyLength, fileOf}
+use Rattle.taskformat.specs.Reading.{Seen, nothingSeen, kindAt, byteAt, nextAt, tableAfter, seenAfter, faultAt, Reads, ReadsFile, faulty, good, ended, trailing}
+use Rattle.taskformat.proofs.Clear.{Clear, clear}
 use Rattle.table.proofs.GatherLaws.{gather-same, gather-next}
-use Rattle.taskfile.proofs.Ranks.{slots, ranks, rank, sizesRecord, pieceAt, file-by-rank, sizes-first, gather-up-to}
-use Rattle.taskfile.proofs.PositionLaws.{apart}
-use Rattle.taskfile.proofs.Families.{Family, ofNone, ofSizes, ofFact, ofCell, ofStep, family}
-use Rattle.taskfile.proofs.Fitting.{Fitted, fitted-known, slotOf, recordBytes, fact-bytes, cell-bytes, step-bytes}
-use Rattle.taskfile.proofs.OneMore.{taskAfter}
-use Rattle.taskfile.proofs.RecordsAfter.{piece-after}
-use Rattle.taskfile.proofs.Standing.{Standing, good-next}
-use Rattle.taskfile.proofs.FirstRecord.{bareTask, seen-first, stands-first, first-kind}
+use Rattle.taskformat.proofs.Ranks.{slots, ranks, rank, sizesRecord, pieceAt, file-by-rank, sizes-first, gather-up-to}
+use Rattle.taskformat.proofs.PositionLaws.{apart}
+use Rattle.taskformat.proofs.Families.{Family, ofNone, ofSizes, ofFact, ofCell, ofStep, family}
+use Rattle.taskformat.proofs.Fitting.{Fitted, fitted-known, slotOf, recordBytes, fact-bytes, cell-bytes, step-bytes}
+use Rattle.taskformat.proofs.OneMore.{taskAfter}
+use Rattle.taskformat.proofs.RecordsAfter.{piece-after}
+use Rattle.taskformat.proofs.Standing.{Standing, good-next}
+use Rattle.taskformat.proofs.FirstRecord.{bareTask, seen-first, stands-first, first-kind}
 
 -- ---- the bytes of a record
 

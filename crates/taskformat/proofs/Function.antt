@@ -9,10 +9,10 @@ use lib.Dec.{eqb, ltb}
 use lib.ListN.{length}
 use borrow.Author.Tests.{eq-eqb, eqb-true, eqb-false, ltb-true, ltb-false, le-leb}
 use Rattle.table.specs.Refusals.{firstOf}
-use Rattle.taskfile.specs.Format.{endKind}
-use Rattle.taskfile.specs.Reading.{Seen, Reads, faulty, good, ended, trailing, kindAt, nextAt, seenAfter, placeOf, faultsAt, faultAt, nothingSeen, ReadsFile}
-use Rattle.taskfile.specs.Computed.{readFrom, readFile}
-use Rattle.taskfile.proofs.Clear.{clear}
+use Rattle.taskformat.specs.Format.{endKind}
+use Rattle.taskformat.specs.Reading.{Seen, Reads, faulty, good, ended, trailing, kindAt, nextAt, seenAfter, placeOf, faultsAt, faultAt, nothingSeen, ReadsFile}
+use Rattle.taskformat.specs.Computed.{readFrom, readFile}
+use Rattle.taskformat.proofs.Clear.{clear}
 
 -- At or past the end the first fault is that there is no end record.
 reads-past : (s : List ℕ) (at : ℕ) (seen : Seen) → length s ≤ at → Reads s (readFrom zero s at seen) at seen
