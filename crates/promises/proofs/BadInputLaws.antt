@@ -19,7 +19,7 @@ use Rattle.session.proofs.CallLaws.{opens-refused, edits-refused, opens-unique,
 use Rattle.session.specs.Calls.{openRefusal, Opens, editRefusal, Edits, listed}
 use Rattle.session.specs.Sessions.{inForm}
 use Rattle.solve.specs.Solving.{told, Solves}
-use Rattle.solve.specs.Tables.{rowAt}
+use Rattle.rows.specs.Tables.{rowAt}
 use Rattle.table.proofs.FlagLaws.{by-order}
 use Rattle.table.proofs.OutcomeLaws.{given-cases}
 use Rattle.table.proofs.RefusalLaws.{Bounded, firstOf-bounded}

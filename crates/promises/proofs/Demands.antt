@@ -38,11 +38,11 @@ use Rattle.session.proofs.open.Reads as opening
 use Rattle.session.specs.Calls.{Story, told-all, then, Made, names}
 use Rattle.session.specs.Sessions.{inForm}
 use Rattle.solve.proofs.Called.{SolveGives, solve-gives, solve-asks-nothing}
-use Rattle.solve.proofs.TableLaws.{stored-limit, stored-unique}
+use Rattle.rows.proofs.TableLaws.{stored-limit, stored-unique}
 use Rattle.solve.proofs.solve.Reads as solve
 use Rattle.solve.proofs.Hopeless.{nine-stuck, stuck-nine}
 use Rattle.solve.specs.Stuck.{Stuck}
-use Rattle.solve.specs.Tables.{rowAt}
+use Rattle.rows.specs.Tables.{rowAt}
 use Rattle.table.proofs.Called.{FormedGives, formed-gives, formed-asks-nothing}
 use Rattle.table.proofs.Formation.{well-formed}
 use Rattle.table.proofs.PublishedLaws.{published-first, published-within}

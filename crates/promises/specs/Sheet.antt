@@ -16,7 +16,7 @@ use Rattle.runcheck.specs.declared.Checked.{Checked}
 use Rattle.session.specs.Calls.{Opens, Edits, listed}
 use Rattle.table.specs.declared.TaskReply.{TaskReply}
 use Rattle.solve.specs.Solving.{Solves}
-use Rattle.solve.specs.Tables.{rowAt}
+use Rattle.rows.specs.Tables.{rowAt}
 use Rattle.table.specs.Bench.{task, listingTask, limited, strayTask, goalsAtStart, goalOutOfReach, addsAndDeletes, deletesTheGoal, needsLastFact, pairs}
 use Rattle.table.specs.Order.{_≼_}
 use Rattle.table.specs.Sizes.{maxLimit}

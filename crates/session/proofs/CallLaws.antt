@@ -13,10 +13,10 @@ use Rattle.change.specs.Editing.{edited, cellFact, cellInside, EditedTo}
 use Rattle.change.specs.declared.Cell.{Cell}
 use Rattle.change.specs.declared.Cell.the-variants.{Need, Add, Delete, Start, Goal}
 use Rattle.change.specs.declared.Edit.{Edit}
-use Rattle.solve.proofs.TableLaws.{filled-stored, stored-unique, rewritten-unique}
+use Rattle.rows.proofs.TableLaws.{filled-stored, stored-unique, rewritten-unique}
 use Rattle.solve.specs.Solving.{told}
 use Rattle.table.specs.Outcomes.{refused}
-use Rattle.solve.specs.Tables.{verdictAt, Stored, Filled, Rewritten}
+use Rattle.rows.specs.Tables.{verdictAt, Stored, Filled, Rewritten}
 use Rattle.table.proofs.FlagLaws.{and-right}
 use Rattle.table.proofs.Formation.{well-formed}
 use Rattle.table.proofs.RefusalLaws.{silent}

@@ -12,7 +12,7 @@ use lib.Seq.{getD-append-add}
 use borrow.Author.Tests.{lt-ltb, le-ltb, le-leb, lt-leb, eq-eqb, eqb-true, leb-true}
 use Rattle.change.proofs.MemberLaws.{getD-isIn, ascending-steps}
 use Rattle.search.specs.Rows.{rowOver, rowHopeless, rowOf, RightRow}
-use Rattle.solve.specs.Tables.{rowAt, repairsIn, Stored, Readable}
+use Rattle.rows.specs.Tables.{rowAt, repairsIn, Stored, Readable}
 use Rattle.table.specs.Counting.{everyBelow}
 use Rattle.table.proofs.AnswerLaws.{first-unique}
 use Rattle.table.proofs.FlagLaws.{both, and-both, or-right, by-order}

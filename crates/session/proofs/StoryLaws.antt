@@ -18,7 +18,7 @@ use Rattle.search.specs.Rows.{RightRow}
 use Rattle.solve.proofs.SolveLaws.{solves-told, solve-unique}
 use Rattle.solve.specs.Solving.{Solves}
 use Rattle.table.specs.Outcomes.{Outcome}
-use Rattle.solve.specs.Tables.{rowAt, Stored, Rewritten}
+use Rattle.rows.specs.Tables.{rowAt, Stored, Rewritten}
 use Rattle.table.proofs.AnswerLaws.{within-same}
 use Rattle.table.proofs.FlagLaws.{or-neither}
 use Rattle.table.proofs.Formation.{well-formed}

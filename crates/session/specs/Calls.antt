@@ -10,7 +10,7 @@ use Rattle.change.specs.declared.Edit.{Edit}
 use Rattle.search.specs.Rows.{verdictIn}
 use Rattle.solve.specs.Solving.{told}
 use Rattle.table.specs.Outcomes.{Outcome, refused}
-use Rattle.solve.specs.Tables.{rowAt, Stored, Rewritten}
+use Rattle.rows.specs.Tables.{rowAt, Stored, Rewritten}
 use Rattle.table.specs.Join.{joinVerdicts}
 use Rattle.table.specs.Refusals.{Refusal, firstOf, refuse, accepted, notWellFormed, notASession, editOutside}
 use Rattle.table.specs.Sizes.{sessionPlaces}

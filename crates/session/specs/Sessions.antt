@@ -1,11 +1,11 @@
--- When a session table is in form for a task. (Its rows, and when they are the right ones: solve/specs/Tables.)
+-- When a session table is in form for a task. (Its rows, and when they are the right ones: rows/specs/Tables.)
 use mathlib.Core.Bool.{Bool, cond, _&&_, _||_}
 use mathlib.Core.List.{List}
 use Prim.Native.Nat.{ℕ, _+_}
 use lib.Dec.{eqb, leb, ltb}
 use lib.ListN.{length, getD}
 use Rattle.search.specs.Rows.{rowHopeless}
-use Rattle.solve.specs.Tables.{rowAt, repairsIn}
+use Rattle.rows.specs.Tables.{rowAt, repairsIn}
 use Rattle.table.specs.Counting.{everyBelow}
 use Rattle.table.specs.Repairs.{permitted, factOf}
 use Rattle.table.specs.Sizes.{maxFacts, maxRow, sessionPlaces, unused}

@@ -12,7 +12,7 @@ use table::permitted;
 use table::repair::Repair;
 ghost use mathlib.Core.Path.{_≡_};
 ghost use Prim.Native.Nat.{_<_};
-ghost use Rattle.solve.specs.Tables.{rowAt};
+ghost use Rattle.rows.specs.Tables.{rowAt};
 ghost use Rattle.table.specs.Counting.{everyBelow};
 ghost use Rattle.table.specs.Sizes.{maxFacts, maxRow};
 ghost use Rattle.table.specs.Tasks.{cellsOf};

@@ -5,7 +5,6 @@ pub mod form;
 use change::Edit;
 use change::editing;
 use solve::report;
-use solve::rows;
 use table::Reply;
 use table::SESSION_PLACES;
 use table::Task;

@@ -1,7 +1,4 @@
--- What the session cites of `solve`: the laws of copies, of rows, of the report and of the answer.
-pub mod CopyLaws
-pub mod TableLaws
-mod WrongLaws
+-- The laws of the report and of the answer.
 pub mod ReportLaws
 pub mod FullLists
 pub mod Hopeless

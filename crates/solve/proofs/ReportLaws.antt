@@ -18,15 +18,15 @@ use Rattle.table.specs.Sizes.{maxFacts, maxRow, rowPlaces}
 use Rattle.table.proofs.FlagLaws.{by-order}
 use Rattle.table.proofs.CountingLaws.{someBelow-first, someBelow-next, firstWhere-zero, firstWhere-next}
 use Rattle.table.proofs.GatherLaws.{gather-zero, gather-step, gather-part}
-use Rattle.solve.specs.Copies.{pasted}
+use Rattle.rows.specs.Copies.{pasted}
 use Rattle.solve.specs.Reports.{sumOf}
 use Rattle.solve.specs.Solving.{told}
 use Rattle.table.specs.Outcomes.{Outcome, refused, given}
 use Rattle.table.proofs.OutcomeLaws.{given-short, given-whole}
-use Rattle.solve.specs.Tables.{rowAt, verdictAt, repairsIn, Readable}
+use Rattle.rows.specs.Tables.{rowAt, verdictAt, repairsIn, Readable}
 use Rattle.solve.specs.declared.report.Sum.{Sum}
-use Rattle.solve.proofs.CopyLaws.{pasted-length}
-use Rattle.solve.proofs.TableLaws.{row-number, row-length}
+use Rattle.rows.proofs.CopyLaws.{pasted-length}
+use Rattle.rows.proofs.TableLaws.{row-number, row-length}
 
 -- ---- what the first number of a row says
 

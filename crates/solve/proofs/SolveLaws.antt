@@ -12,8 +12,8 @@ use Rattle.table.proofs.AnswerLaws.{within-unique}
 use Rattle.table.proofs.Formation.{well-formed}
 use Rattle.solve.specs.Solving.{told, Solves}
 use Rattle.table.specs.Outcomes.{Outcome, refused}
-use Rattle.solve.specs.Tables.{verdictAt, RightRows}
-use Rattle.solve.proofs.TableLaws.{right-within}
+use Rattle.rows.specs.Tables.{verdictAt, RightRows}
+use Rattle.rows.proofs.TableLaws.{right-within}
 
 module _ (t : Task) (room : List ℕ) where
   pub solves-malformed : (o : Outcome) → formed t ≡ false → o ≡ refused notWellFormed room → Solves t room o

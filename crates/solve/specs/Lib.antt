@@ -1,7 +1,4 @@
--- What solving promises, and the session table that it fills and reads.
-pub mod Copies
-pub mod Tables
-pub mod Wrong
+-- What solving promises, and what reading the list off a session table gives.
 pub mod Reports
 pub mod Solving
 pub mod Stuck

@@ -4,7 +4,7 @@ use Prim.Native.Nat.{ℕ}
 use lib.ListN.{length}
 use Rattle.table.specs.Counting.{someBelow, firstWhere}
 use Rattle.table.specs.Join.{isHopeless, isOver, joinLists}
-use Rattle.solve.specs.Tables.{verdictAt}
+use Rattle.rows.specs.Tables.{verdictAt}
 use Rattle.solve.specs.declared.report.Sum.{Sum}
 
 -- Of the rows below n: does one say 8, the first that says 7 (n where there is none), and the sum of the lengths.

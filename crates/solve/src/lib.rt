@@ -1,8 +1,5 @@
 // The answer: the rows of all facts joined, read against the limit and the room (document 01, demand 2).
-mod copying;
 pub mod report;
-pub mod rows;
-mod wrong;
 
 use table::ALL_ROWS;
 use table::Reply;

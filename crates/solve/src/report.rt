@@ -1,7 +1,7 @@
 // Reading the list off the session table: "Listing joins the rows in order of fact: refusal 9 if a row says 8; else 10 if
 // a row says 7 or the lengths sum to more than L; else the joined list" (document 01, "The session table"). The rows are
 // summed first and the limit is read afterwards, so that a refusal writes nothing.
-use crate::copying;
+use rows::copying;
 use search::row;
 use table::ROW;
 use table::ROW_PLACES;
@@ -22,7 +22,7 @@ ghost use Rattle.search.specs.Rows.{rowOver};
 ghost use Rattle.solve.specs.Reports.{sumOf};
 ghost use Rattle.solve.specs.Solving.{told};
 ghost use Rattle.table.specs.Outcomes.{Outcome};
-ghost use Rattle.solve.specs.Tables.{rowAt, verdictAt, repairsIn, Readable};
+ghost use Rattle.rows.specs.Tables.{rowAt, verdictAt, repairsIn, Readable};
 
 // What the rows come to: does one say 8, the lowest fact whose row says 7 (their number where there is none), and the sum
 // of the lengths.

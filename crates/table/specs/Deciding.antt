@@ -1,4 +1,4 @@
--- Tests that computing decides, for worked examples and for solve/specs/Wrong: is one fact right, and have a task's arrays their declared
+-- Tests that computing decides, for worked examples and for rows/specs/Wrong: is one fact right, and have a task's arrays their declared
 -- lengths? What they say is in Strips and Tasks; that they say it, in proofs/DecidingLaws.
 use mathlib.Core.Bool.{Bool, not, _&&_, _||_}
 use Prim.Native.Nat.{ℕ}

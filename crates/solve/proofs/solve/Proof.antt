@@ -9,7 +9,7 @@ use Rattle.table.specs.Tasks.{Shaped, WellFormed}
 use Rattle.table.proofs.Formation.{told-formed, told-unformed}
 use Rattle.table.specs.Outcomes.{refused}
 use Rattle.table.proofs.OutcomeLaws.{refused-told}
-use Rattle.solve.proofs.TableLaws.{right-readable}
+use Rattle.rows.proofs.TableLaws.{right-readable}
 use Rattle.solve.proofs.SolveLaws.{solves-malformed, solves-told}
 use Rattle.solve.proofs.solve.Statement.{statement}
 use Rattle.solve.proofs.solve.Tie as tie

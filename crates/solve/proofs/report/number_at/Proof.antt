@@ -7,8 +7,8 @@ use borrow.Author.Needs.{needs}
 use native.Mathlib.Omega.{arith}
 use lib.ListN.{length, getD, drop, length-take, List·getD-eq-default}
 use Rattle.table.specs.Sizes.{rowPlaces}
-use Rattle.solve.specs.Tables.{rowAt}
-use Rattle.solve.proofs.TableLaws.{row-number}
+use Rattle.rows.specs.Tables.{rowAt}
+use Rattle.rows.proofs.TableLaws.{row-number}
 use Rattle.solve.proofs.report.number_at.Statement.{statement}
 use Rattle.solve.proofs.report.number_at.Tie as tie
 

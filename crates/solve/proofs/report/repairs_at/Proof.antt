@@ -1,7 +1,7 @@
 -- `solve::report::repairs_at` meets its contract. Assumes nothing.
 use borrow.Author.Needs.{needs}
 use borrow.Author.Tests.{le-leb, lt-leb}
-use Rattle.solve.specs.Tables.{repairsIn}
+use Rattle.rows.specs.Tables.{repairsIn}
 use Rattle.solve.proofs.report.repairs_at.Statement.{statement}
 use Rattle.solve.proofs.report.repairs_at.Tie as tie
 

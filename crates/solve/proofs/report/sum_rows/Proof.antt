@@ -2,7 +2,7 @@
 use Prim.Native.Nat.{_-_}
 use borrow.Author.Needs.{needs}
 use native.Mathlib.Omega.{arith}
-use Rattle.solve.specs.Tables.{rowAt}
+use Rattle.rows.specs.Tables.{rowAt}
 use Rattle.solve.proofs.ReportLaws.{repairs-low, Summed, summed-none, summed-more, summed-end}
 use Rattle.solve.proofs.report.sum_rows.Statement.{statement}
 use Rattle.solve.proofs.report.sum_rows.Tie as tie

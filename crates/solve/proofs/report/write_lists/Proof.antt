@@ -3,7 +3,7 @@ use Prim.Native.Nat.{_+_, _-_, _≤_}
 use borrow.Author.Needs.{needs}
 use native.Mathlib.Omega.{arith}
 use lib.ListN.{length}
-use Rattle.solve.specs.Tables.{rowAt, repairsIn}
+use Rattle.rows.specs.Tables.{rowAt, repairsIn}
 use Rattle.solve.proofs.ReportLaws.{repairs-low, Listed, listed-none, listed-fits, listed-more, listed-end}
 use Rattle.solve.proofs.report.write_lists.Statement.{statement}
 use Rattle.solve.proofs.report.write_lists.Tie as tie

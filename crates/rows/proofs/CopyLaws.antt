@@ -7,7 +7,7 @@ use native.Mathlib.Numerals.{add-one}
 use native.Mathlib.Omega.{arith}
 use lib.ListN.{length, getD, take, drop, set, List·getD-append, length-drop}
 use lib.Seq.{paste-zero, paste-suc, length-paste, length-paste-head, drop-paste, getD-take, getD-drop, length-take-le, getD-append-add}
-use Rattle.solve.specs.Copies.{pasted}
+use Rattle.rows.specs.Copies.{pasted}
 
 module _ (s : List ℕ) (at : ℕ) (l : List ℕ) where
   -- ---- the loop: at its start, after a turn, at its end

@@ -5,10 +5,10 @@ use borrow.Author.Needs.{needs}
 use native.Mathlib.Omega.{arith}
 use Rattle.table.specs.Sizes.{maxFacts}
 use Rattle.table.proofs.FlagLaws.{by-order}
-use Rattle.solve.specs.Tables.{emptyRow, RowsPut}
-use Rattle.solve.proofs.TableLaws.{rows-none, rows-more}
-use Rattle.solve.proofs.rows.empty_rows.Statement.{statement}
-use Rattle.solve.proofs.rows.empty_rows.Tie as tie
+use Rattle.rows.specs.Tables.{emptyRow, RowsPut}
+use Rattle.rows.proofs.TableLaws.{rows-none, rows-more}
+use Rattle.rows.proofs.empty_rows.Statement.{statement}
+use Rattle.rows.proofs.empty_rows.Tie as tie
 
 abbrev Inv-loop : tie.InvT-loop
 Inv-loop table₀ f₀ table f = (f ≤ maxFacts) × RowsPut (λ g. g < f) (λ g row. row ≡ emptyRow) table₀ table

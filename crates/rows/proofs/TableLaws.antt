@@ -19,9 +19,9 @@ use Rattle.table.proofs.AnswerLaws.{within-unique}
 use Rattle.table.proofs.FlagLaws.{by-order}
 use Rattle.table.proofs.JoinLaws.{join-for}
 use Rattle.table.proofs.Strides.{sessionPlaces-rows}
-use Rattle.solve.specs.Copies.{pasted}
-use Rattle.solve.specs.Tables.{rowAt, verdictAt, RightRows, Stored, RowPut, RowsPut, Filled, Rewritten, Readable}
-use Rattle.solve.proofs.CopyLaws.{pasted-length, pasted-before, pasted-after, pasted-at}
+use Rattle.rows.specs.Copies.{pasted}
+use Rattle.rows.specs.Tables.{rowAt, verdictAt, RightRows, Stored, RowPut, RowsPut, Filled, Rewritten, Readable}
+use Rattle.rows.proofs.CopyLaws.{pasted-length, pasted-before, pasted-after, pasted-at}
 
 -- ---- where the numbers of a row stand
 

@@ -5,9 +5,9 @@ use native.Mathlib.Omega.{arith}
 use lib.ListN.{getD}
 use Rattle.table.specs.Sizes.{maxActions, maxSteps}
 use Rattle.table.proofs.Formation.{step-lt}
-use Rattle.solve.proofs.WrongLaws.{Passed, passed-none, passed-more, passed-end}
-use Rattle.solve.proofs.wrong.wrong_facts.Statement.{statement}
-use Rattle.solve.proofs.wrong.wrong_facts.Tie as tie
+use Rattle.rows.proofs.WrongLaws.{Passed, passed-none, passed-more, passed-end}
+use Rattle.rows.proofs.wrong.wrong_facts.Statement.{statement}
+use Rattle.rows.proofs.wrong.wrong_facts.Tie as tie
 
 abbrev Inv-loop : tie.InvT-loop
 Inv-loop t needs adds deletes steps count state₀ wrong₀ i₀ state wrong i = Passed t state wrong i

@@ -1,10 +1,10 @@
 -- `solve::rows::put_empty` meets its contract: by what `copy` ensures. Assumes nothing.
 use mathlib.Core.Path.{_≡_, refl}
 use borrow.Author.Needs.{needs}
-use Rattle.solve.specs.Tables.{emptyRow}
-use Rattle.solve.proofs.TableLaws.{row-written}
-use Rattle.solve.proofs.rows.put_empty.Statement.{statement}
-use Rattle.solve.proofs.rows.put_empty.Tie as tie
+use Rattle.rows.specs.Tables.{emptyRow}
+use Rattle.rows.proofs.TableLaws.{row-written}
+use Rattle.rows.proofs.put_empty.Statement.{statement}
+use Rattle.rows.proofs.put_empty.Tie as tie
 
 -- the call's start
 abbrev start : tie.After-copy → tie.Start

@@ -8,7 +8,7 @@ use Rattle.facts.specs.Sets.{has}
 use Rattle.table.specs.Deciding.{isRight}
 use Rattle.table.specs.Tasks.{cellsOf, courseOf}
 use Rattle.table.specs.declared.Task.{Task}
-use Rattle.solve.specs.Tables.{RowPut}
+use Rattle.rows.specs.Tables.{RowPut}
 
 -- The mask has exactly the wrong facts.
 abbrev pub WrongFacts : Task → ℕ → Type 0

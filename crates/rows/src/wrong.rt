@@ -1,7 +1,7 @@
 // Which facts are wrong, in one pass over the run with masks.
 use table::Task;
 ghost use Rattle.table.specs.Tasks.{WellFormed};
-ghost use Rattle.solve.specs.Wrong.{WrongFacts};
+ghost use Rattle.rows.specs.Wrong.{WrongFacts};
 
 // The facts that a step needs where they are absent, and the goals that are absent at the end.
 pub(crate) fn wrong_facts(t: Task) -> u64

@@ -2,9 +2,9 @@
 use borrow.Author.Needs.{needs}
 use native.Mathlib.Omega.{arith}
 use Rattle.search.specs.Rows.{RightRow}
-use Rattle.solve.proofs.WrongLaws.{lowest-low, lowest-taken}
-use Rattle.solve.proofs.rows.put_lowest.Statement.{statement}
-use Rattle.solve.proofs.rows.put_lowest.Tie as tie
+use Rattle.rows.proofs.WrongLaws.{lowest-low, lowest-taken}
+use Rattle.rows.proofs.put_lowest.Statement.{statement}
+use Rattle.rows.proofs.put_lowest.Tie as tie
 
 -- the call's start; the fact taken; its row put
 abbrev start : tie.After-lowest → tie.Start

@@ -8,11 +8,11 @@ use native.Mathlib.Omega.{arith}
 use Rattle.facts.specs.Sets.{has}
 use Rattle.facts.proofs.Laws.{has-empty}
 use Rattle.search.specs.Rows.{RightRow}
-use Rattle.solve.specs.Tables.{RowsPut}
-use Rattle.solve.proofs.TableLaws.{rows-more, rows-again, rows-filled}
-use Rattle.solve.proofs.WrongLaws.{right-emptied}
-use Rattle.solve.proofs.rows.fill.Statement.{statement}
-use Rattle.solve.proofs.rows.fill.Tie as tie
+use Rattle.rows.specs.Tables.{RowsPut}
+use Rattle.rows.proofs.TableLaws.{rows-more, rows-again, rows-filled}
+use Rattle.rows.proofs.WrongLaws.{right-emptied}
+use Rattle.rows.proofs.fill.Statement.{statement}
+use Rattle.rows.proofs.fill.Tie as tie
 
 abbrev Inv-loop : tie.InvT-loop
 Inv-loop t table₀ left₀ table left = RowsPut (λ f. has left f ≡ false) (RightRow t) table₀ table

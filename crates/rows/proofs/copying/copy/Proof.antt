@@ -3,10 +3,10 @@ use mathlib.Core.Path.{_≡_, refl}
 use Prim.Native.Nat.{_≤_, _-_}
 use native.Mathlib.Omega.{arith}
 use lib.ListN.{length, drop, length-set}
-use Rattle.solve.specs.Copies.{pasted}
-use Rattle.solve.proofs.CopyLaws.{pasted-none, pasted-end, copied-more}
-use Rattle.solve.proofs.copying.copy.Statement.{statement}
-use Rattle.solve.proofs.copying.copy.Tie as tie
+use Rattle.rows.specs.Copies.{pasted}
+use Rattle.rows.proofs.CopyLaws.{pasted-none, pasted-end, copied-more}
+use Rattle.rows.proofs.copying.copy.Statement.{statement}
+use Rattle.rows.proofs.copying.copy.Tie as tie
 
 abbrev Inv-loop : tie.InvT-loop
 Inv-loop from start count to₀ at i₀ to i = (i ≤ count) × (length to ≡ length to₀) × (to ≡ pasted to₀ at (drop start from) i)

@@ -1,8 +1,8 @@
 -- `solve::rows::put_row` meets its contract: the right row is copied to its place, and no other row is touched. Assumes nothing.
 use borrow.Author.Needs.{needs}
-use Rattle.solve.proofs.TableLaws.{right-length, row-written}
-use Rattle.solve.proofs.rows.put_row.Statement.{statement}
-use Rattle.solve.proofs.rows.put_row.Tie as tie
+use Rattle.rows.proofs.TableLaws.{right-length, row-written}
+use Rattle.rows.proofs.put_row.Statement.{statement}
+use Rattle.rows.proofs.put_row.Tie as tie
 
 -- the call's start, and the row searched
 abbrev start : tie.After-row → tie.Start

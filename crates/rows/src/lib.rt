@@ -1,7 +1,8 @@
 // Writing rows: one fact's afresh, and all of them (document 01, "The session table"). What stands after the rows is left
 // alone.
-use crate::copying;
-use crate::wrong;
+pub mod copying;
+mod wrong;
+
 use table::FACTS;
 use table::ROW_PLACES;
 use table::Task;
@@ -12,8 +13,8 @@ ghost use lib.ListN.{length};
 ghost use Rattle.search.specs.Rows.{RightRow};
 ghost use Rattle.table.specs.Sizes.{maxFacts, allRows};
 ghost use Rattle.table.specs.Tasks.{WellFormed};
-ghost use Rattle.solve.specs.Tables.{RowPut, Rewritten, emptyRow, Emptied, Filled};
-ghost use Rattle.solve.specs.Wrong.{Taken};
+ghost use Rattle.rows.specs.Tables.{RowPut, Rewritten, emptyRow, Emptied, Filled};
+ghost use Rattle.rows.specs.Wrong.{Taken};
 
 // The row of one fact, written afresh.
 pub fn put_row(t: Task, f: usize, table: &mut [u16])

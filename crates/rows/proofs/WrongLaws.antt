@@ -23,8 +23,8 @@ use Rattle.table.proofs.CountingLaws.{everyBelow-none, everyBelow-next}
 use Rattle.table.proofs.DecidingLaws.{is-right}
 use Rattle.table.proofs.JoinLaws.{keeps-right}
 use Rattle.table.proofs.RunLaws.{stateAt-first, stateAt-next}
-use Rattle.solve.specs.Tables.{emptyRow, RowPut, RowsPut, Emptied}
-use Rattle.solve.specs.Wrong.{WrongFacts, Taken}
+use Rattle.rows.specs.Tables.{emptyRow, RowPut, RowsPut, Emptied}
+use Rattle.rows.specs.Wrong.{WrongFacts, Taken}
 
 -- absent where it is needed
 missed : (before needed present : Bool) → (not before || (needed && not present)) ≡ not (before && (not needed || present))

@@ -1,0 +1,4 @@
+-- The laws of copies, and of the rows of a session table.
+pub mod CopyLaws
+pub mod TableLaws
+mod WrongLaws
