@@ -40,14 +40,22 @@ removed-digits a b =
     let low : min (a % 2) (1 - b % 2) ≡ a % 2 - min (a % 2) (b % 2) = omega arith in
     rw (low, ← removed-odd a b, ← removed-half a b) (omega arith)
 
+-- Halves of a number below 2 ^ suc k, and the halves and last digit of its complement.
+half-below : (k a : ℕ) → a < 2 ^ suc k → a / 2 < 2 ^ k
+half-below k a h = omega arith
+
+complement-half : (k b : ℕ) → b < 2 ^ suc k → (2 ^ suc k - 1 - b) / 2 ≡ 2 ^ k - 1 - b / 2
+complement-half k b l = omega arith
+
+complement-odd : (k b : ℕ) → b < 2 ^ suc k → (2 ^ suc k - 1 - b) % 2 ≡ 1 - b % 2
+complement-odd k b l = omega arith
+
 removed-complement : (k a b : ℕ) → a < 2 ^ k → b < 2 ^ k → bitAnd a (2 ^ k - 1 - b) ≡ removed a b
 unfolding removed
 removed-complement zero a b h l = let none : a ≡ 0 = omega arith in rw none
 removed-complement (suc k) a b h l =
-    let half : (2 ^ suc k - 1 - b) / 2 ≡ 2 ^ k - 1 - b / 2 = omega arith in
-    let odd : (2 ^ suc k - 1 - b) % 2 ≡ 1 - b % 2 = omega arith in
-    let rest = removed-complement k (a / 2) (b / 2) (omega arith) (omega arith) in
-    and-step a (2 ^ suc k - 1 - b) ∙ rw (half, odd, rest) (removed-digits a b)
+    let rest = removed-complement k (a / 2) (b / 2) (half-below k a h) (half-below k b l) in
+    and-step a (2 ^ suc k - 1 - b) ∙ rw (complement-half k b l, complement-odd k b l, rest) (removed-digits a b)
 
 pub removed-below : (a b : ℕ) → a < 2 ^ width → b < 2 ^ width → bitAnd a (2 ^ width - 1 - b) ≡ removed a b
 removed-below = removed-complement width
