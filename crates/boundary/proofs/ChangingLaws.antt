@@ -5,8 +5,8 @@ use mathlib.Core.Path.{_≡_, refl, ap}
 use Prim.Native.Nat.{ℕ}
 use native.Mathlib.Omega.{arith}
 use lib.ListN.{length}
-use Rattle.change.proofs.ApplyLaws.{applies-unformed, applies-unique}
-use Rattle.change.specs.Applying.{Applies}
+use Rattle.apply.proofs.ApplyLaws.{applies-unformed, applies-unique}
+use Rattle.apply.specs.Applying.{Applies}
 use Rattle.change.specs.declared.Edit.{Edit}
 use Rattle.session.proofs.CallLaws.{edit-malformed}
 use Rattle.session.specs.Calls.{Edits}

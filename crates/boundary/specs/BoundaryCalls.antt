@@ -2,7 +2,7 @@
 use mathlib.Core.List.{List}
 use mathlib.Core.Path.{_≡_}
 use Prim.Native.Nat.{ℕ}
-use Rattle.change.specs.Applying.{Applies}
+use Rattle.apply.specs.Applying.{Applies}
 use Rattle.table.specs.declared.TaskReply.{TaskReply}
 use Rattle.listing.specs.Listing.{ListsInto}
 use Rattle.runcheck.specs.OpenNeeds.{checked}

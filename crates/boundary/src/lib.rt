@@ -1,7 +1,7 @@
 // The boundary: every public call as an `extern "C"` function on numbers and slices, for callers in C and in Rust
 // (docs/BOUNDARY.md). A task crosses as 166 words, an answer as words in lent room; where that room is too short nothing
 // is called, and the answer is 255. A task that a call changes is lent in and out.
-use change::apply::apply;
+use apply::apply;
 use listing::listing;
 use runcheck::check_run;
 use session::edit;

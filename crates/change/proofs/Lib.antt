@@ -1,8 +1,5 @@
--- What other crates cite of `change`: the laws of one cell by its kind, of an edit, of a permitted list and of an applied one.
+-- What other crates cite of `change`: the laws of one cell by its kind, of an edit and of the numbers of a list.
 pub mod KindLaws
 pub mod SameLaws
 pub mod EditLaws
 pub mod MemberLaws
-pub mod PermittedLaws
-pub mod ApplyLaws
-pub mod Called

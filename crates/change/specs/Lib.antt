@@ -1,4 +1,3 @@
--- What applying a list and editing a cell mean.
-pub mod Applying
+-- What editing a cell means, and one cell by its kind.
 pub mod Editing
 pub mod Kinds

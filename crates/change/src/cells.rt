@@ -6,7 +6,7 @@ ghost use mathlib.Core.Path.{_≡_};
 ghost use Rattle.change.specs.Kinds.{kindSet};
 
 // The table with one fact of an action present or absent in the deletes, adds or needs, by the kind.
-pub(crate) fn set_of_kind(t: Table, kind: usize, action: usize, fact: usize, present: bool) -> Table
+pub fn set_of_kind(t: Table, kind: usize, action: usize, fact: usize, present: bool) -> Table
     ensures { λ r. ⌜ r ≡ kindSet t kind action fact present ⌝ }
 {
     if kind == Repair::DROP_DELETE {

@@ -1,7 +1,5 @@
-// Changing a task: applying a repair list at once, and editing one cell (document 01, "The model and its run" and
-// "The session table").
-pub mod apply;
-mod cells;
+// Changing a task by one cell: an edit (document 01, "The session table"), and what applying a list shares with it.
+pub mod cells;
 pub mod editing;
 
 // Which cell an edit names: a need, an add or a delete, by action and fact; or a start or goal fact.

@@ -7,9 +7,9 @@ use Prim.Native.Nat.{ℕ, _+_, _<_, _≤_}
 use native.Mathlib.Omega.{arith}
 use lib.Dec.{eqb}
 use lib.ListN.{length}
-use Rattle.change.proofs.ApplyLaws.{applies-wrong, applies-unique}
-use Rattle.change.proofs.PermittedLaws.{firstWrong-le, permitted-list}
-use Rattle.change.specs.Applying.{firstWrong, applyRefusal, Applies}
+use Rattle.apply.proofs.ApplyLaws.{applies-wrong, applies-unique}
+use Rattle.apply.proofs.PermittedLaws.{firstWrong-le, permitted-list}
+use Rattle.apply.specs.Applying.{firstWrong, applyRefusal, Applies}
 use Rattle.change.specs.declared.Edit.{Edit}
 use Rattle.listing.specs.Listing.{ListsInto}
 use Rattle.runcheck.specs.OpenNeeds.{statesOf, totalOpen, firstOpen, lowestOpen, openNeeds, refusedCheck, openReport, checked}

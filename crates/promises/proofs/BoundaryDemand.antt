@@ -24,8 +24,8 @@ use Rattle.boundary.proofs.zp_write.Reads as zp-write
 use Rattle.taskwords.specs.Answers.{Answers, changedLength, changedWords, checkedWords, taskAnswer}
 use Rattle.boundary.specs.BoundaryCalls.{AnswersReply, HandsRecord, ReadsTask, WritesTask, ChecksRun, AppliesList, SolvesTask, OpensSession, EditsSession, ListsSession, ListsInput}
 use Rattle.taskwords.specs.Words.{taskIn, lentBack}
-use Rattle.change.proofs.ApplyLaws.{applies-unformed, applies-unique}
-use Rattle.change.specs.Applying.{firstWrong}
+use Rattle.apply.proofs.ApplyLaws.{applies-unformed, applies-unique}
+use Rattle.apply.specs.Applying.{firstWrong}
 use Rattle.change.specs.Editing.{cellInside}
 use Rattle.table.specs.declared.TaskReply.{TaskReply}
 use Rattle.session.proofs.CallLaws.{open-malformed, open-not-a-session, edit-malformed, edit-not-a-session, edit-outside, listed-malformed, listed-not-a-session}

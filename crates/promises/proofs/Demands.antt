@@ -13,10 +13,10 @@ use mathlib.Core.Path.{_≡_, sym, ap, _∙_}
 use Prim.Native.Nat.{ℕ, _<_, _≤_}
 use native.Mathlib.Omega.{arith}
 use lib.ListN.{length, take}
-use Rattle.change.proofs.ApplyLaws.{applies-unformed, applies-unique}
-use Rattle.change.proofs.Called.{ApplyGives, apply-gives, apply-asks-nothing}
-use Rattle.change.proofs.apply.apply.Reads as apply
-use Rattle.change.specs.Applying.{firstWrong}
+use Rattle.apply.proofs.ApplyLaws.{applies-unformed, applies-unique}
+use Rattle.apply.proofs.Called.{ApplyGives, apply-gives, apply-asks-nothing}
+use Rattle.apply.proofs.apply.Reads as apply
+use Rattle.apply.specs.Applying.{firstWrong}
 use Rattle.change.specs.Editing.{cellInside}
 use Rattle.table.specs.declared.TaskReply.{TaskReply}
 use Rattle.change.specs.declared.Edit.{Edit}

@@ -5,9 +5,9 @@ use mathlib.Core.Path.{_≡_, refl, sym, ap, _∙_, subst}
 use Prim.Native.Nat.{ℕ, _<_, _≤_}
 use native.Mathlib.Omega.{arith}
 use lib.ListN.{length}
-use Rattle.change.proofs.ApplyLaws.{applies-made, applies-unique, applied-well, applied-valid}
-use Rattle.change.proofs.PermittedLaws.{list-permitted}
-use Rattle.change.specs.Applying.{Applies}
+use Rattle.apply.proofs.ApplyLaws.{applies-made, applies-unique, applied-well, applied-valid}
+use Rattle.apply.proofs.PermittedLaws.{list-permitted}
+use Rattle.apply.specs.Applying.{Applies}
 use Rattle.change.specs.Kinds.{oneByOne}
 use Rattle.table.specs.declared.TaskReply.{TaskReply}
 use Rattle.runcheck.proofs.Valid.{valid-checked-zero}

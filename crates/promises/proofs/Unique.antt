@@ -4,8 +4,8 @@
 use mathlib.Core.List.{List}
 use mathlib.Core.Path.{_≡_, sym, _∙_}
 use Prim.Native.Nat.{ℕ}
-use Rattle.change.proofs.ApplyLaws.{applies-unique}
-use Rattle.change.proofs.Called.{ApplyGives, apply-gives}
+use Rattle.apply.proofs.ApplyLaws.{applies-unique}
+use Rattle.apply.proofs.Called.{ApplyGives, apply-gives}
 use Rattle.change.specs.declared.Edit.{Edit}
 use Rattle.listing.proofs.Called.{ListingGives, listing-gives}
 use Rattle.listing.proofs.Determined.{listing-unique}

@@ -10,8 +10,8 @@ use Rattle.boundary.proofs.Called.{ZpRecordGives, zp-record-gives, ZpReadGives,
 use Rattle.taskwords.specs.Answers.{Answers, changedWords, replyWords, checkedWords, recordWords, taskAnswer}
 use Rattle.boundary.specs.BoundaryCalls.{Nothing, AnswersOutcome, HandsRecord, ReadsTask, WritesTask, ChecksRun, AppliesList, SolvesTask, OpensSession, EditsSession, ListsSession, ListsInput}
 use Rattle.taskwords.specs.Words.{taskIn, lentBack}
-use Rattle.change.proofs.ApplyLaws.{applies-unique}
-use Rattle.change.specs.Applying.{Applies}
+use Rattle.apply.proofs.ApplyLaws.{applies-unique}
+use Rattle.apply.specs.Applying.{Applies}
 use Rattle.table.specs.declared.TaskReply.{TaskReply}
 use Rattle.listing.proofs.Determined.{listing-unique}
 use Rattle.recordreader.proofs.Called.{NewGives, NextGives, ReaderBodyGives, MovedOnGives, PlaceAfterGives, place-after-gives}

@@ -1,9 +1,9 @@
 -- `change::apply::is_wrong_at` meets its contract: the two parts of refusal 15. Assumes nothing.
 use native.Mathlib.Omega.{arith}
-use Rattle.change.specs.Applying.{wrongAt}
+use Rattle.apply.specs.Applying.{wrongAt}
 use borrow.Author.Needs.{needs}
-use Rattle.change.proofs.apply.is_wrong_at.Statement.{statement}
-use Rattle.change.proofs.apply.is_wrong_at.Tie as tie
+use Rattle.apply.proofs.is_wrong_at.Statement.{statement}
+use Rattle.apply.proofs.is_wrong_at.Tie as tie
 
 mul-n : tie.Need-mul-n
 mul-n c = search needs

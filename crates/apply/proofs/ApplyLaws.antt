@@ -28,13 +28,13 @@ use Rattle.table.specs.Tasks.{cellsOf, courseOf, maskOf, WorksFor, formed, Shap
 use Rattle.table.specs.declared.Run.{Run}
 use Rattle.table.specs.declared.Table.{Table}
 use Rattle.table.specs.declared.Task.{Task}
-use Rattle.change.specs.Applying.{firstWrong, applyRefusal, AppliedTo, Applies}
+use Rattle.apply.specs.Applying.{firstWrong, applyRefusal, AppliedTo, Applies}
 use Rattle.table.specs.declared.TaskReply.{TaskReply}
 use Rattle.change.specs.Kinds.{numberSet, oneByOne}
 use Rattle.change.proofs.KindLaws.{Long, shaped-long, long-shaped, long-kindSet, cell-kindSet, sizes-kindSet}
 use Rattle.change.proofs.SameLaws.{outside-well, same-table}
 use Rattle.change.proofs.MemberLaws.{getD-isIn}
-use Rattle.change.proofs.PermittedLaws.{firstWrong-le, permitted-list}
+use Rattle.apply.proofs.PermittedLaws.{firstWrong-le, permitted-list}
 
 -- ---- numbers made one after another are made at once
 

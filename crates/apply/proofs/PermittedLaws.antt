@@ -14,8 +14,8 @@ use Rattle.table.specs.Answer.{Permitted}
 use Rattle.table.specs.Refusals.{none}
 use Rattle.table.specs.Repairs.{permitted}
 use Rattle.table.specs.Strips.{Cells}
-use Rattle.change.specs.Applying.{wrongAt, firstWrong}
+use Rattle.apply.specs.Applying.{wrongAt, firstWrong}
 use Rattle.change.proofs.MemberLaws.{getD-isIn, isIn-all, steps-ascending, ascending-steps}
 
 -- ---- the first wrong number, as the loop finds it
 

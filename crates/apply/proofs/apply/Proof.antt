@@ -4,10 +4,10 @@ use native.Mathlib.Omega.{arith}
 use borrow.Author.Tests.{not-true, not-false}
 use denote.Ref.{now}
 use Rattle.table.specs.Tasks.{Shaped}
-use Rattle.change.proofs.ApplyLaws.{applies-unformed, applies-wrong, applies-made}
+use Rattle.apply.proofs.ApplyLaws.{applies-unformed, applies-wrong, applies-made}
 use borrow.Author.Needs.{needs}
-use Rattle.change.proofs.apply.apply.Statement.{statement}
-use Rattle.change.proofs.apply.apply.Tie as tie
+use Rattle.apply.proofs.apply.Statement.{statement}
+use Rattle.apply.proofs.apply.Tie as tie
 
 shaped : (c : tie.Start) → Shaped (c .args .t)
 shaped c = record { needs = search needs; adds = search needs; deletes = search needs; steps = search needs }

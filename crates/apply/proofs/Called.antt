@@ -5,8 +5,8 @@ use denote.Ref.{now}
 use Rattle.table.proofs.ContractLaws.{call-keeps}
 use Rattle.table.specs.Contracts.{Call, AsksNothing}
 use Rattle.table.specs.declared.Task.{Task}
-use Rattle.change.proofs.apply.apply.Reads as apply
-use Rattle.change.specs.Applying.{Applies}
+use Rattle.apply.proofs.apply.Reads as apply
+use Rattle.apply.specs.Applying.{Applies}
 use Rattle.table.specs.declared.TaskReply.{TaskReply}
 
 -- Applying the list l to t gives r.

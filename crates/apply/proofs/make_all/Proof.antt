@@ -6,10 +6,10 @@ use lib.ListN.{length}
 use borrow.Author.Needs.{needs}
 use denote.Ref.{now}
 use Rattle.table.proofs.CountingLaws.{at-end}
 use Rattle.change.proofs.KindLaws.{oneByOne-none, oneByOne-more}
 use Rattle.change.specs.Kinds.{oneByOne}
-use Rattle.change.proofs.apply.make_all.Statement.{statement}
-use Rattle.change.proofs.apply.make_all.Tie as tie
+use Rattle.apply.proofs.make_all.Statement.{statement}
+use Rattle.apply.proofs.make_all.Tie as tie
 
 abbrev Inv-loop : tie.InvT-loop
 Inv-loop list after₀ i₀ i-end after i = (i-end ≡ length list) × (i ≤ length list) × (after ≡ oneByOne after₀ list i)

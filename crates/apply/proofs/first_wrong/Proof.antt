@@ -7,11 +7,11 @@ use lib.ListN.{length}
 use borrow.Author.Count.{below-more}
 use borrow.Author.Needs.{needs}
 use denote.Ref.{now}
-use Rattle.change.proofs.PermittedLaws.{firstWrong-found, firstWrong-none}
+use Rattle.apply.proofs.PermittedLaws.{firstWrong-found, firstWrong-none}
 use Rattle.table.specs.Tasks.{cellsOf}
-use Rattle.change.specs.Applying.{wrongAt}
-use Rattle.change.proofs.apply.first_wrong.Statement.{statement}
-use Rattle.change.proofs.apply.first_wrong.Tie as tie
+use Rattle.apply.specs.Applying.{wrongAt}
+use Rattle.apply.proofs.first_wrong.Statement.{statement}
+use Rattle.apply.proofs.first_wrong.Tie as tie
 
 abbrev Inv-loop : tie.InvT-loop
 Inv-loop t list i₀ i = (i ≤ length list) × ((j : ℕ) → j < i → wrongAt (cellsOf t) list j ≡ false)

@@ -1,8 +1,8 @@
 -- `change::apply::is_not_after` meets its contract: past the first, the two numbers are compared. Assumes nothing.
 use borrow.Author.Tests.{lt-ltb, le-ltb}
 use borrow.Author.Needs.{needs}
-use Rattle.change.proofs.apply.is_not_after.Statement.{statement}
-use Rattle.change.proofs.apply.is_not_after.Tie as tie
+use Rattle.apply.proofs.is_not_after.Statement.{statement}
+use Rattle.apply.proofs.is_not_after.Tie as tie
 
 mul-result : tie.Need-mul-result
 mul-result c = search needs

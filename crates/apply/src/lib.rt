@@ -1,5 +1,5 @@
 // Applying a list of repairs (document 01, "The model and its run"): refusals 12 and 15, else all cells of the list at once.
-use crate::cells;
+use change::cells;
 use table::Table;
 use table::Task;
 use table::TaskReply;
@@ -13,8 +13,8 @@ ghost use Prim.Native.Nat.{_-_, _<_};
 ghost use lib.Dec.{ltb, leb};
 ghost use lib.ListN.{length, getD};
 ghost use Rattle.table.specs.Tasks.{cellsOf};
-ghost use Rattle.change.specs.Applying.{wrongAt, firstWrong, Applies};
+ghost use Rattle.apply.specs.Applying.{wrongAt, firstWrong, Applies};
 ghost use Rattle.change.specs.Kinds.{numberSet, oneByOne};
 
 // Whether the number at an index does not ascend; the first always does.
 fn is_not_after(list: &[u16], i: usize) -> bool

@@ -1,8 +1,8 @@
 -- `change::apply::make_one` meets its contract: the cell that the number names, set by its kind. Assumes nothing.
 use Rattle.change.specs.Kinds.{numberSet}
 use borrow.Author.Needs.{needs}
-use Rattle.change.proofs.apply.make_one.Statement.{statement}
-use Rattle.change.proofs.apply.make_one.Tie as tie
+use Rattle.apply.proofs.make_one.Statement.{statement}
+use Rattle.apply.proofs.make_one.Tie as tie
 
 of-requires : tie.Need-of-requires
 of-requires c κs = search needs

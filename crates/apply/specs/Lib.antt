@@ -1,0 +1,2 @@
+-- What applying a list means.
+pub mod Applying
