@@ -1,138 +1,145 @@
--- Laws of the lower bound: conflicts that share no repair each cost a repair of their own, the first of theirs or a later
--- one.
-use mathlib.Core.Bool.{true, false, true≢false, _||_}
+-- Laws of the bound: sets of repairs that share none, each lacking to the candidate with the earlier ones put in, cost a repair
+-- each.
+use mathlib.Core.Bool.{Bool, true, false, not, true≢false, _||_}
 use mathlib.Core.List.{List}
 use mathlib.Core.Logic.{_⊎_, inl, inr}
-use mathlib.Core.Path.{_≡_, sym, _∙_, subst}
-use Prim.Native.Nat.{ℕ, _+_, _<_, _≤_}
-use native.Mathlib.Decide.{decLt}
+use mathlib.Core.Path.{_≡_, sym, ap, _∙_, subst}
+use Prim.Native.Nat.{ℕ, _+_, _%_, _<_, _≤_}
 use native.Mathlib.Omega.{arith}
 use lib.ListN.{length}
 use Rattle.table.specs.Order.{isIn}
-use Rattle.table.specs.Repairs.{factOf}
+use Rattle.table.specs.Repairs.{repaired}
 use Rattle.table.specs.Sizes.{perFact}
-use Rattle.table.proofs.FlagLaws.{is-false, or-left, or-right}
-use Rattle.table.proofs.OrderLaws.{≼-trans}
+use Rattle.table.specs.Strips.{Right}
+use Rattle.table.proofs.FlagLaws.{is-false, or-cases, or-left, or-right}
 use Rattle.table.proofs.RepairLaws.{right-more}
 use Rattle.search.specs.declared.Column.{Column}
 use Rattle.search.specs.declared.Choice.{Choice}
-use Rattle.search.specs.declared.Found.{Found}
-use Rattle.search.specs.Choices.{inChoice, numbersIn, listOf, codeNumber, Contains, Misses}
+use Rattle.search.specs.Choices.{inChoice, numbersIn, listOf, codeNumber, Contains, Misses, Apart}
 use Rattle.search.specs.Columns.{cellsIn, courseIn, KeepsIn}
-use Rattle.search.specs.Searching.{Missing, Conflicts, Later}
-use Rattle.search.specs.Trying.{withRepair, bothOf, NextIn, FoundEarlier}
-use Rattle.search.proofs.ChoiceLaws.{Ahead, ahead-same, ahead-with, ahead-first, listOf-from, listOf-has, listOf-members, in-both, with-cases, with-length, contains-with}
-use Rattle.search.proofs.SearchLaws.{contained-first, no-more, missing-wrong}
+use Rattle.search.specs.Searching.{Complete, Sought, Lacks, Among, OutFor, Reached}
+use Rattle.search.specs.Trying.{withRepair, bothOf, withoutThose, CodesBelow, NextIn}
+use Rattle.search.proofs.ChoiceLaws.{listOf-only, listOf-members, listOf-has, in-both, in-without-cases, with-cases, with-length, contains-with}
+use Rattle.search.proofs.SearchLaws.{no-more}
 
--- u is the candidate s with n repairs more, all of them in `passed`.
-pub record Picked (col : Column) (s passed : Choice) (n : ℕ) (u : Choice) : Type 0 where
-  pub within : (code : ℕ) → code < perFact → inChoice u code ≡ true → inChoice passed code ≡ true
-  pub size : length (listOf (col .fact) u) ≡ length (listOf (col .fact) s) + n
-
--- A list's share in the conflicts so far: a repair of each. It is no earlier than `least`, which has the first of each.
-pub record Share (col : Column) (s passed least : Choice) (n : ℕ) (l : List ℕ) : Type 0 where
+-- A list's share in the sets so far: the candidate s with n repairs more, all of them in `passed`, that the list has.
+pub record Share (col : Column) (s passed : Choice) (n : ℕ) (l : List ℕ) : Type 0 where
   pub share : Choice
-  pub picked : Picked col s passed n share
+  pub within : (code : ℕ) → code < perFact → inChoice share code ≡ true → inChoice passed code ≡ true
+  pub size : length (listOf (col .fact) share) ≡ length (listOf (col .fact) s) + n
   pub part : Contains (isIn l) (col .fact) share
-  pub firsts : Picked col s passed n least
-  pub ahead : Ahead least share
 
--- Every list that keeps the fact right, contains the candidate and has nothing that is out has one.
-abbrev pub Shared : Column → Choice → Choice → Choice → Choice → ℕ → Type 0
-Shared col s out passed least n =
-    (l : List ℕ) → KeepsIn col l → Contains (isIn l) (col .fact) s → Misses (isIn l) (col .fact) out → Share col s passed least n l
+-- Every list that is looked for and contains the candidate has one; and the candidate is in `passed`.
+pub record Shared (col : Column) (s out want passed : Choice) (n : ℕ) : Type 0 where
+  pub shares : (l : List ℕ) → Sought col out want l → Contains (isIn l) (col .fact) s → Share col s passed n l
+  pub candidate : (code : ℕ) → code < perFact → inChoice s code ≡ true → inChoice passed code ≡ true
 
--- A repair of one more conflict, of all that was passed: it was not in the set.
-module _ (col : Column) (s out passed q u : Choice) (n code : ℕ) (h : code < perFact) (conflict : Conflicts col passed out q)
-    (here : inChoice q code ≡ true) (before : Picked col s passed n u) where
-  picked-new : inChoice u code ≡ false
-  picked-new = is-false (inChoice u code) (λ t. true≢false (sym (before .within code h t) ∙ conflict .fresh code h here))
+module _ (col : Column) (s out want : Choice) where
+  pub shared-none : Shared col s out want s 0
+  shared-none = record {
+    shares = λ l sought part. record { share = s; within = λ code h t. t; size = omega arith; part = part };
+    candidate = λ code h t. t;
+  }
 
-  picked-more : Picked col s (bothOf passed q) (n + 1) (withRepair u code)
-  picked-more = record {
-    within = λ c hc t. in-both passed q c ∙ pick c hc (with-cases u code c h hc t);
-    size = omega (arith, with-length (col .fact) u code h picked-new, before .size);
+  -- One more set, lacking to all that was passed: each list has a repair of it.
+  pub shared-more : (passed q : Choice) (n : ℕ) → Shared col s out want passed n → Lacks col passed out want q
+      → Shared col s out want (bothOf passed q) (n + 1)
+  shared-more passed q n before lacks = record {
+    shares = more;
+    candidate = λ code h t. in-both passed q code ∙ or-left (inChoice passed code) (inChoice q code) (before .candidate code h t);
   }
     where
-      pick : (c : ℕ) → c < perFact → (c ≡ code) ⊎ (inChoice u c ≡ true) → (inChoice passed c || inChoice q c) ≡ true
-      pick c hc (inl e) = or-right (inChoice passed c) (inChoice q c) (subst (λ k. inChoice q k ≡ true) (sym e) here)
-      pick c hc (inr t) = or-left (inChoice passed c) (inChoice q c) (before .within c hc t)
-
-module _ (col : Column) (s out : Choice) where
-  pub shared-none : Shared col s out s s 0
-  shared-none l keeps part misses = record { share = s; picked = none; part = part; firsts = none; ahead = ahead-same s }
-    where
-      none : Picked col s s 0 s
-      none = record { within = λ code h t. t; size = omega arith }
-
-  -- One more conflict, of all that was passed: each list has a repair of it, the first or a later one.
-  pub shared-more : (passed least q : Choice) (n first : ℕ) → Shared col s out passed least n → Conflicts col passed out q → NextIn q 0 first
-      → Shared col s out (bothOf passed q) (withRepair least first) (n + 1)
-  shared-more passed least q n first before conflict next l keeps part misses = record {
-    share = withRepair (w .share) code;
-    picked = picked-more col s out passed q (w .share) n code h conflict (m .2) (w .picked);
-    part = contains-with (isIn l) (col .fact) (w .share) code h (w .part) (m .3);
-    firsts = picked-more col s out passed q least n first low conflict (next .present low) (w .firsts);
-    ahead = ahead-with least (w .share) first code low h no-later
-        (picked-new col s out passed q least n first low conflict (next .present low) (w .firsts)) (w .ahead);
-  }
-    where
-      w : Share col s passed least n l
-      w = before l keeps part misses
-
-      m : (code : ℕ) × (code < perFact) × (inChoice q code ≡ true) × (isIn l (codeNumber (col .fact) code) ≡ true)
-      m = conflict .meets l keeps misses
-
-      code : ℕ
-      code = m .0
-
-      h : code < perFact
-      h = m .1
-
-      no-later : first ≤ code
-      no-later = pick (decLt code first)
+      more : (l : List ℕ) → Sought col out want l → Contains (isIn l) (col .fact) s → Share col s (bothOf passed q) (n + 1) l
+      more l sought part = record {
+        share = withRepair (w .share) code;
+        within = λ c hc t. in-both passed q c ∙ pick c hc (with-cases (w .share) code c h hc t);
+        size = omega (arith, with-length (col .fact) (w .share) code h new, w .size);
+        part = contains-with (isIn l) (col .fact) (w .share) code h (w .part) (m .3);
+      }
         where
-          pick : Dec (code < first) → first ≤ code
-          pick (yes k) = absurd (true≢false (sym (m .2) ∙ next .absent code k (omega arith)))
-          pick (no k) = omega arith
+          w : Share col s passed n l
+          w = before .shares l sought part
 
-      low : first < perFact
-      low = omega (arith, no-later, h)
+          m : (code : ℕ) × (code < perFact) × (inChoice q code ≡ true) × (isIn l (codeNumber (col .fact) code) ≡ true)
+          m = lacks .meets l sought
 
-  -- Nothing is left of a conflict: there is no list.
-  pub none-left : (passed q : Choice) (first left : ℕ) (best : Found) → Conflicts col passed out q → NextIn q 0 first → first ≡ perFact
-      → Later col s out left best
-  none-left passed q first left best conflict next none l a =
-      let m = conflict .meets l (a .keeps) (a .misses) in
-      absurd (true≢false (sym (m .2) ∙ next .absent (m .0) (omega (arith, m .1)) (omega arith)))
+          code : ℕ
+          code = m .0
 
-  -- The fact is missing even with all that was passed: a list that had its share and nothing beside would be wrong.
-  pub shared-end : (passed least : Choice) (n left j : ℕ) (best : Found) → left ≤ n → Shared col s out passed least n → Missing col passed j
-      → Later col s out left best
-  shared-end passed least n left j best enough all missing l a =
-      absurd (missing-wrong col passed j missing
-      (right-more (cellsIn col) (courseIn col) (col .fact) (isIn l) (numbersIn (col .fact) passed) more (a .keeps .right)))
-    where
-      w : Share col s passed least n l
-      w = all l (a .keeps) (a .contains) (a .misses)
+          h : code < perFact
+          h = m .1
 
-      more : (m : ℕ) → factOf m ≡ col .fact → isIn l m ≡ true → numbersIn (col .fact) passed m ≡ true
-      more m own h =
-          let only : isIn (listOf (col .fact) (w .share)) m ≡ true =
-          no-more col (w .share) l (a .keeps) (w .part) (omega (arith, a .short, w .picked .size)) m h in
-          let d = listOf-from (col .fact) (w .share) m only in
-          sym (listOf-members (col .fact) passed m)
-          ∙ subst (λ k. isIn (listOf (col .fact) passed) k ≡ true) (sym (d .number))
-          (listOf-has (col .fact) passed (d .index) (d .below) (w .picked .within (d .index) (d .below) (d .passes)))
+          new : inChoice (w .share) code ≡ false
+          new = is-false (inChoice (w .share) code) (λ t. true≢false (sym (w .within code h t) ∙ lacks .fresh code h (m .2)))
 
-  -- The list found before comes before the candidate with the first repair of each conflict, and so before every list.
-  pub shared-later : (passed least : Choice) (n left : ℕ) (best : Found) → Shared col s out passed least n → FoundEarlier best least true
-      → Later col s out left best
-  shared-later passed least n left best all earlier l a =
-      let w = all l (a .keeps) (a .contains) (a .misses) in
-      let f = col .fact in (
-        earlier .0,
-        ≼-trans (listOf f (best .choice)) (listOf f least) l (earlier .1 f)
-            (≼-trans (listOf f least) (listOf f (w .share)) l (ahead-first f least (w .share) (w .ahead) (w .firsts .size ∙ sym (w .picked .size)))
-            (contained-first col (w .share) l (a .keeps) (w .part))),
-      )
+          pick : (c : ℕ) → c < perFact → (c ≡ code) ⊎ (inChoice (w .share) c ≡ true) → (inChoice passed c || inChoice q c) ≡ true
+          pick c hc (inl e) = or-right (inChoice passed c) (inChoice q c) (subst (λ k. inChoice q k ≡ true) (sym e) (m .2))
+          pick c hc (inr t) = or-left (inChoice passed c) (inChoice q c) (w .within c hc t)
+
+  -- A list that has its share and no room for more has nothing beside what was passed.
+  within-passed : (passed : Choice) (n left : ℕ) → left ≤ n → Shared col s out want passed n → (l : List ℕ)
+      → Among col s out want (length (listOf (col .fact) s) + left) l → (m : ℕ) → isIn l m ≡ true → isIn (listOf (col .fact) passed) m ≡ true
+  within-passed passed n left enough all l a m h =
+      let w = all .shares l (a .sought) (a .contains) in
+      let only : isIn (listOf (col .fact) (w .share)) m ≡ true =
+      no-more col (w .share) l (a .sought .keeps) (w .part) (omega (arith, a .short, w .size)) m h in
+      let number : codeNumber (col .fact) (m % perFact) ≡ m = omega (arith, a .sought .keeps .own m h) in
+      let code : inChoice (w .share) (m % perFact) ≡ true =
+      listOf-only (col .fact) (w .share) (m % perFact) (subst (λ k. isIn (listOf (col .fact) (w .share)) k ≡ true) (sym number) only) in
+      subst (λ k. isIn (listOf (col .fact) passed) k ≡ true) number
+      (listOf-has (col .fact) passed (m % perFact) (omega arith) (w .within (m % perFact) (omega arith) code))
+
+  module _ (passed : Choice) (n left : ℕ) (enough : left ≤ n) (all : Shared col s out want passed n) where
+    -- All that was passed is not enough: there is no list.
+    pub shared-short : Complete col passed want false → (l : List ℕ) → Among col s out want (length (listOf (col .fact) s) + left) l → ⊥
+    shared-short short l a = short right (m .0, m .1, in-passed, m .2)
+      where
+        m : (code : ℕ) × (code < perFact) × (inChoice want code ≡ true) × (isIn l (codeNumber (col .fact) code) ≡ true)
+        m = a .sought .meets
+
+        in-passed : inChoice passed (m .0) ≡ true
+        in-passed = listOf-only (col .fact) passed (m .0) (within-passed passed n left enough all l a (codeNumber (col .fact) (m .0)) (m .3))
+
+        right : Right (repaired (cellsIn col) (numbersIn (col .fact) passed)) (courseIn col) (col .fact)
+        right =
+            right-more (cellsIn col) (courseIn col) (col .fact) (isIn l) (numbersIn (col .fact) passed)
+            (λ k own h. sym (listOf-members (col .fact) passed k) ∙ within-passed passed n left enough all l a k h) (a .sought .keeps .right)
+
+    -- Nothing beside what was passed: the rest is out.
+    shared-out : (every : Choice) → CodesBelow perFact every → Apart s out
+        → OutFor col s out want (length (listOf (col .fact) s) + left) (bothOf out (withoutThose every passed))
+    shared-out every whole apart = record {
+      before = λ code h t. in-both out (withoutThose every passed) code ∙ or-left (inChoice out code) _ t;
+      apart = λ code h t.
+          is-false (inChoice (bothOf out (withoutThose every passed)) code) (λ u.
+          true≢false (sym (all .candidate code h t) ∙ not-passed code u (λ o. true≢false (sym o ∙ apart code h t))));
+      misses = λ l a code h t.
+          is-false (isIn l (codeNumber (col .fact) code)) (λ u.
+          true≢false (sym (listOf-only (col .fact) passed code (within-passed passed n left enough all l a (codeNumber (col .fact) code) u)) ∙
+          not-passed code t (λ o. true≢false (sym u ∙ a .sought .misses code h o))));
+    }
+      where
+        not-passed : (code : ℕ) → inChoice (bothOf out (withoutThose every passed)) code ≡ true → (inChoice out code ≡ true → ⊥)
+            → inChoice passed code ≡ false
+        not-passed code t apart =
+            pick (or-cases (inChoice out code) (inChoice (withoutThose every passed) code) (sym (in-both out (withoutThose every passed) code) ∙ t))
+          where
+            pick : (inChoice out code ≡ true) ⊎ (inChoice (withoutThose every passed) code ≡ true) → inChoice passed code ≡ false
+            pick (inl o) = absurd (apart o)
+            pick (inr r) = in-without-cases every passed code r .1
+
+  pub shared-reached : (passed every : Choice) (n left : ℕ) → left ≤ n → Shared col s out want passed n → CodesBelow perFact every → Apart s out
+      → (t : Bool) → Complete col passed want t
+      → Reached col s out want (length (listOf (col .fact) s) + left) t (bothOf out (withoutThose every passed))
+  shared-reached passed every n left enough all whole apart true complete = shared-out passed n left enough all every whole apart
+  shared-reached passed every n left enough all whole apart false short = shared-short passed n left enough all short
+
+  -- Nothing is left of what is lacking: there is no list.
+  pub none-left : (passed q : Choice) (k : ℕ) → Lacks col passed out want q → NextIn q 0 perFact → (l : List ℕ) → Among col s out want k l → ⊥
+  none-left passed q k lacks next l a =
+      let m = lacks .meets l (a .sought) in
+      true≢false (sym (m .2) ∙ next .absent (m .0) (m .1) (omega arith))
+
+  -- Nothing more is out.
+  pub out-same : (k : ℕ) → Apart s out → OutFor col s out want k out
+  out-same k apart = record { before = λ code h t. t; apart = apart; misses = λ l a. a .sought .misses }

@@ -1,4 +1,4 @@
--- Laws of sets of one fact's repairs: their lists, one repair more, and which of two comes first.
+-- Laws of sets of one fact's repairs: their lists, one repair more, two sets as one, what two share.
 use mathlib.Core.Bool.{Bool, true, false, cond, not, _&&_, _||_, false≢true, true≢false, or-comm}
 use mathlib.Core.List.{List, [], _∷_}
 use mathlib.Core.Logic.{_⊎_, inl, inr, ⊎-elim}
@@ -7,22 +7,22 @@ use Prim.Native.Nat.{ℕ, zero, suc, _+_, _*_, _/_, _%_, _<_, _≤_}
 use native.Mathlib.Decide.{decLt}
 use native.Mathlib.Nat.{eq-or-lt-of-le, le-of-suc-le-suc}
 use native.Mathlib.Omega.{arith}
-use borrow.Author.Tests.{eqb-true, eq-eqb, eqb-false, ne-eqb, ltb-true, ltb-false}
+use borrow.Author.Tests.{eqb-true, eq-eqb, eqb-false, ne-eqb, ltb-true, ltb-false, not-true}
 use lib.Dec.{eqb, ltb}
 use lib.ListN.{length, length-append}
-use Rattle.facts.specs.Sets.{has, joined, removed, only}
-use Rattle.facts.proofs.Laws.{has-empty, has-joined, has-removed, has-only}
+use Rattle.facts.specs.Sets.{has, joined, shared, removed, only}
+use Rattle.facts.proofs.Laws.{has-empty, has-joined, has-shared, has-removed, has-only}
 use Rattle.table.specs.Lists.{gather, piece}
-use Rattle.table.specs.Order.{isIn, Ascending, _≼_}
+use Rattle.table.specs.Order.{isIn, Ascending}
 use Rattle.table.specs.Repairs.{byKind, factOf}
 use Rattle.table.specs.Sizes.{perFact, kinds}
-use Rattle.table.proofs.FlagLaws.{or-cases, or-left, or-right, and-left, and-right, and-both, same-flag, is-false}
+use Rattle.table.proofs.FlagLaws.{or-cases, or-left, or-right, and-left, and-right, both, and-both, same-flag, is-false}
 use Rattle.table.proofs.GatherLaws.{passing, Passed, passing-from, passing-has, passing-ascending}
 use Rattle.table.proofs.OrderLaws
 use Rattle.table.proofs.RepairNumbers.{kind-cases}
 use Rattle.search.specs.declared.Choice.{Choice}
-use Rattle.search.specs.Choices.{codeKind, codeAction, codeNumber, nothing, inChoice, numbersIn, listOf, Contains, Misses, Apart}
-use Rattle.search.specs.Trying.{withMask, maskIn, withRepair, bothOf, withoutThose, FirstDifference, Earlier}
+use Rattle.search.specs.Choices.{codeKind, codeAction, codeNumber, nothing, inChoice, numbersIn, listOf, Contains, Misses, Meets, Apart}
+use Rattle.search.specs.Trying.{withMask, maskIn, withRepair, bothOf, sharedBy, withoutThose, NextIn, Sharing}
 
 -- ---- the list of a set of codes
 
@@ -117,6 +117,10 @@ module _ (f : ℕ) (s : Choice) where
       let d = listOf-from (codeNumber f code) h in
       let e : code ≡ d .index = omega (arith, d .number) in
       ap (inChoice s) e ∙ d .passes
+
+  -- The list has the repairs of the choice, and of the fact's no others.
+  pub in-list : (code : ℕ) → code < perFact → isIn (listOf f s) (codeNumber f code) ≡ inChoice s code
+  in-list code h = same-flag (isIn (listOf f s) (codeNumber f code)) (inChoice s code) (listOf-only code) (listOf-has code h)
 
   -- Its list has none of a choice that it shares nothing with.
   pub list-misses : (out : Choice) → Apart s out → Misses (isIn (listOf f s)) f out
@@ -215,10 +219,42 @@ pub in-both : (a b : Choice) (code : ℕ) → inChoice (bothOf a b) code ≡ (in
 unfolding inChoice bothOf
 in-both = masks-in joined (λ p q. p || q) has-joined
 
+-- The codes that two sets share: those of both.
+pub in-shared : (a b : Choice) (code : ℕ) → inChoice (sharedBy a b) code ≡ (inChoice a code && inChoice b code)
+unfolding inChoice sharedBy
+in-shared = masks-in shared (λ p q. p && q) has-shared
+
+-- The first code that two sets share, or that there is none.
+pub sharing-next : (a b r : Choice) (next : ℕ) → r ≡ sharedBy a b → NextIn r 0 next → Sharing a b (ltb next perFact)
+sharing-next a b r next e n = pick (ltb next perFact) refl
+  where
+    in-r : (code : ℕ) → inChoice r code ≡ (inChoice a code && inChoice b code)
+    in-r code = ap (λ s. inChoice s code) e ∙ in-shared a b code
+
+    pick : (t : Bool) → ltb next perFact ≡ t → Sharing a b t
+    pick true t =
+        let h = ltb-true next perFact t in
+        let m = both (inChoice a next) (inChoice b next) (sym (in-r next) ∙ n .present h) in
+        (next, h, m .0, m .1)
+    pick false t = λ m.
+        false≢true (sym (n .absent (m .0) (omega (arith, m .1, ltb-false next perFact t)) (omega arith)) ∙ in-r (m .0) ∙
+        and-both (inChoice a (m .0)) (inChoice b (m .0)) (m .2) (m .3))
+
 -- The codes of a set without another: its own that are not the other's.
 pub in-without : (a b : Choice) (code : ℕ) → inChoice (withoutThose a b) code ≡ (inChoice a code && not (inChoice b code))
 unfolding inChoice withoutThose
 in-without = masks-in removed (λ p q. p && not q) has-removed
+
+pub in-without-cases : (a b : Choice) (code : ℕ) → inChoice (withoutThose a b) code ≡ true → (inChoice a code ≡ true) × (inChoice b code ≡ false)
+in-without-cases a b code t =
+    let h = both (inChoice a code) (not (inChoice b code)) (sym (in-without a b code) ∙ t) in
+    (h .0, not-true (inChoice b code) (h .1))
+
+-- What has one of a set and none of what is out has one of the set without that.
+pub left-over : (s out : Choice) (R : ℕ → Bool) (f : ℕ) → Misses R f out → Meets R f s → Meets R f (withoutThose s out)
+left-over s out R f misses m =
+    let here : inChoice out (m .0) ≡ false = is-false (inChoice out (m .0)) (λ t. true≢false (sym (m .3) ∙ misses (m .0) (m .1) t)) in
+    (m .0, m .1, in-without s out (m .0) ∙ and-both (inChoice s (m .0)) _ (m .2) (ap not here), m .3)
 
 -- A repair that was not in the set makes its list one longer.
 pub with-length : (f : ℕ) (s : Choice) (code : ℕ) → code < perFact → inChoice s code ≡ false
@@ -271,113 +307,3 @@ find-code p (suc n) = here (p n) refl (find-code p n)
     here false e (inl w) = inl (w .0, omega (arith, w .1), w .2)
     here false e (inr none) =
         inr (λ i l. ⊎-elim (λ q. subst (λ (m : ℕ). p m ≡ false) (sym q) e) (none i) (eq-or-lt-of-le (le-of-suc-le-suc l)))
-
--- ---- which of two comes first
-
--- Sets that agree below a code have the same numbers below it.
-agree-below : (f : ℕ) (a b : Choice) (code : ℕ) → ((c : ℕ) → c < code → inChoice a c ≡ inChoice b c)
-    → (m : ℕ) → m < codeNumber f code → isIn (listOf f a) m ≡ true → isIn (listOf f b) m ≡ true
-agree-below f a b code same m h t =
-    let d = listOf-from f a m t in
-    let low : d .index < code = omega (arith, d .number) in
-    subst (λ k. isIn (listOf f b) k ≡ true) (sym (d .number)) (listOf-has f b (d .index) (d .below) (sym (same (d .index) low) ∙ d .passes))
-
--- Sets with the same codes have the same list.
-same-list : (f : ℕ) (a b : Choice) → ((c : ℕ) → c < perFact → inChoice a c ≡ inChoice b c) → listOf f a ≡ listOf f b
-same-list f a b same =
-    OrderLaws.same-members 0 0 (listOf f a) (listOf f b) (listOf-ascending f a) (listOf-ascending f b) (all a b same)
-    (all b a (λ c h. sym (same c h)))
-  where
-    all : (a b : Choice) → ((c : ℕ) → c < perFact → inChoice a c ≡ inChoice b c) → (n : ℕ) → isIn (listOf f a) n ≡ true → isIn (listOf f b) n ≡ true
-    all a b same n t = let d = listOf-from f a n t in agree-below f a b perFact same n (omega (arith, d .below, d .number)) t
-
--- a comes before b or has the same repairs: it is a that has the first repair in which they differ.
-pub record Ahead (a b : Choice) : Type 0 where
-  pub at : ℕ
-  pub within : at ≤ perFact
-  pub same : (c : ℕ) → c < at → inChoice a c ≡ inChoice b c
-  pub here : at < perFact → (inChoice a at ≡ true) × (inChoice b at ≡ false)
-
-pub ahead-same : (a : Choice) → Ahead a a
-ahead-same a = record { at = perFact; within = omega arith; same = λ c h. refl; here = λ h. absurd (omega arith) }
-
--- One repair more in each, the first set's not after the other's.
-module _ (a b : Choice) (x y : ℕ) (hx : x < perFact) (hy : y < perFact) (ordered : x ≤ y) (out : inChoice a x ≡ false) (h : Ahead a b) where
-  -- It comes before all in which they differed.
-  new-first : x < y → x < h .at → Ahead (withRepair a x) (withRepair b y)
-  new-first apart low = record {
-    at = x;
-    within = omega arith;
-    same = λ c k.
-        with-other a x c hx (omega arith) (λ e. absurd (omega arith)) ∙ h .same c (omega arith) ∙
-        sym (with-other b y c hy (omega arith) (λ e. absurd (omega arith)));
-    here = λ k. (with-has a x hx, with-other b y x hy hx (λ e. absurd (omega arith)) ∙ sym (h .same x low) ∙ out);
-  }
-
-  -- They differ where they did.
-  old-first : (x ≡ y) ⊎ (h .at ≤ x) → Ahead (withRepair a x) (withRepair b y)
-  old-first why = record {
-    at = h .at;
-    within = h .within;
-    same = λ c k.
-        in-with a x c hx (omega (arith, h .within)) ∙ ap₂ (λ u v. u || v) (test c k why) (h .same c k) ∙
-        sym (in-with b y c hy (omega (arith, h .within)));
-    here = λ k. (with-keeps a x (h .at) hx k (h .here k .0), with-other b y (h .at) hy k (apart k why) ∙ h .here k .1);
-  }
-    where
-      test : (c : ℕ) → c < h .at → (x ≡ y) ⊎ (h .at ≤ x) → eqb c x ≡ eqb c y
-      test c k (inl e) = ap (eqb c) e
-      test c k (inr past) = ne-eqb c x (λ e. absurd (omega arith)) ∙ sym (ne-eqb c y (λ e. absurd (omega arith)))
-
-      apart : h .at < perFact → (x ≡ y) ⊎ (h .at ≤ x) → h .at ≡ y → ⊥
-      apart k (inl e) q = false≢true (sym out ∙ ap (inChoice a) (e ∙ sym q) ∙ h .here k .0)
-      apart k (inr past) q = let e : x ≡ h .at = omega arith in false≢true (sym out ∙ ap (inChoice a) e ∙ h .here k .0)
-
-  pub ahead-with : Ahead (withRepair a x) (withRepair b y)
-  ahead-with = pick (decLt x y) (decLt x (h .at))
-    where
-      pick : Dec (x < y) → Dec (x < h .at) → Ahead (withRepair a x) (withRepair b y)
-      pick (yes apart) (yes low) = new-first apart low
-      pick (no apart) d = old-first (inl (omega arith))
-      pick (yes apart) (no past) = old-first (inr (omega arith))
-
--- At equal length the set that is ahead comes first.
-pub ahead-first : (f : ℕ) (a b : Choice) → Ahead a b → length (listOf f a) ≡ length (listOf f b) → listOf f a ≼ listOf f b
-ahead-first f a b h e = pick (decLt (h .at) perFact)
-  where
-    absent : inChoice b (h .at) ≡ false → isIn (listOf f b) (codeNumber f (h .at)) ≡ true → ⊥
-    absent gone t = false≢true (sym gone ∙ listOf-only f b (h .at) t)
-
-    pick : Dec (h .at < perFact) → listOf f a ≼ listOf f b
-    pick (yes k) =
-        inr (OrderLaws.first-difference-first 0 0 (listOf f a) (listOf f b) (codeNumber f (h .at)) (listOf-ascending f a) (listOf-ascending f b) e
-        (listOf-has f a (h .at) k (h .here k .0)) (absent (h .here k .1)) (agree-below f a b (h .at) (h .same))
-        (agree-below f b a (h .at) (λ c k. sym (h .same c k))))
-    pick (no k) =
-        subst (λ l. listOf f a ≼ l) (same-list f a b (λ c low. h .same c (omega arith))) (OrderLaws.≼-refl (listOf f a))
-
-pub earlier-difference : (a b : Choice) (code : ℕ) → FirstDifference a b code
-    → ((f : ℕ) → length (listOf f a) ≡ length (listOf f b)) → Earlier a b (inChoice a code)
-earlier-difference a b code d e = pick (inChoice a code) refl
-  where
-    other : (t : Bool) → code < perFact → inChoice a code ≡ t → inChoice b code ≡ not t
-    other true h t = is-false (inChoice b code) (λ u. d .differs h (t ∙ sym u))
-    other false h t = is-true (inChoice b code) (λ u. d .differs h (t ∙ sym u))
-      where
-        is-true : (x : Bool) → (x ≡ false → ⊥) → x ≡ true
-        is-true true k = refl
-        is-true false k = absurd (k refl)
-
-    pick : (t : Bool) → inChoice a code ≡ t → Earlier a b t
-    pick true t = λ f.
-        ahead-first f a b (record { at = code; within = d .within; same = d .same; here = λ h. (t, other true h t) }) (e f)
-    pick false t = λ f.
-        ahead-first f b a (record { at = code; within = d .within; same = λ c k. sym (d .same c k); here = λ h. (other false h t, t) }) (sym (e f))
-
-pub earlier-shorter : (a b : Choice) (m n : ℕ) → ((f : ℕ) → m ≡ length (listOf f a)) → ((f : ℕ) → n ≡ length (listOf f b))
-    → (m ≡ n → ⊥) → Earlier a b (ltb m n)
-earlier-shorter a b m n p q ne = pick (ltb m n) refl
-  where
-    pick : (t : Bool) → ltb m n ≡ t → Earlier a b t
-    pick true h = λ f. inl (omega (arith, ltb-true m n h, p f, q f))
-    pick false h = λ f. inl (omega (arith, ltb-false m n h, p f, q f, ne))

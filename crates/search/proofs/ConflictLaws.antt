@@ -27,7 +27,7 @@ use Rattle.search.specs.Columns.{cellsIn, courseIn, KeepsIn, ColumnForme
 use Rattle.search.specs.Gaps.{LastDelete, Named, need-at, that-delete, add-between, ConflictAt, ActionsOf}
 use Rattle.search.specs.Searching.{cellsWith, NeededAt, by-step, by-goal, Missing, Allowed}
 use Rattle.search.specs.Trying.{maskIn}
-use Rattle.search.proofs.ChoiceLaws.{find-code, nothing-apart}
+use Rattle.search.proofs.ChoiceLaws.{find-code}
 use Rattle.search.proofs.ColumnLaws.{chosen-has, inChoice-has}
 
 -- ---- looking back
@@ -333,9 +333,8 @@ module _ (col : Column) (s : Choice) (j i : ℕ) (formed : ColumnFormed col) (mi
   is-conflict = record {
     named = λ code h. (offered-named code h, named-offered code);
     conflicts = record {
-      meets = λ l keeps _. conflict-meets l keeps;
+      meets = conflict-meets;
       fresh = conflict-fresh;
-      apart = nothing-apart q;
       allowed = conflict-allowed;
     };
   }

@@ -7,3 +7,4 @@ pub mod ConflictLaws
 pub mod MaskLaws
 pub mod SearchLaws
 pub mod RowLaws
+pub mod LeastLaws

@@ -1,11 +1,11 @@
--- Laws of a choice as three masks of actions: its size as counts, its next code and the first difference of two as
--- lowest places.
+-- Laws of a choice as three masks of actions: its size as counts, its next code as a lowest
+-- place, the codes below one.
 use mathlib.Core.Bool.{Bool, true, false, not, _&&_, _||_, false≢true, and-true, and-false}
 use mathlib.Core.Path.{_≡_, refl, sym, ap, ap₂, _∙_}
 use Prim.Native.Nat.{ℕ, zero, suc, _+_, _*_, _-_, _^_, _<_, _≤_, min}
 use native.Mathlib.Decide.{decLt}
 use native.Mathlib.Omega.{arith}
-use borrow.Author.Tests.{lt-ltb, le-ltb, ltb-false, not-true}
+use borrow.Author.Tests.{lt-ltb, le-ltb, ltb-true, ltb-false, not-true}
 use lib.Dec.{ltb}
 use lib.ListN.{length}
 use Rattle.facts.specs.Sets.{width, bit, has, joined, shared, removed, below, count, lowest, sumBits}
@@ -14,11 +14,11 @@ use Rattle.facts.proofs.Digits.{bit-lt}
 use Rattle.facts.proofs.Laws.{has-joined, has-shared, has-removed, has-below, joined-lt, shared-lt, removed-lt}
 use Rattle.table.specs.Lists.{gather}
 use Rattle.table.specs.Repairs.{dropDelete, addEffect, dropNeed}
-use Rattle.table.proofs.FlagLaws.{and-left, and-right}
+use Rattle.table.proofs.FlagLaws.{and-left, and-right, same-flag}
 use Rattle.table.specs.Sizes.{perKind, kinds}
 use Rattle.search.specs.declared.Choice.{Choice}
 use Rattle.search.specs.Choices.{codeKind, codeAction, inChoice, listOf}
-use Rattle.search.specs.Trying.{maskIn, NextAction, NextIn, FirstUnshared, FirstDifference}
+use Rattle.search.specs.Trying.{maskIn, CodesBelow, NextAction, NextIn}
 use Rattle.table.proofs.GatherLaws.{passing}
 use Rattle.search.proofs.ChoiceLaws.{weight, codes, codes-length}
 
@@ -159,63 +159,15 @@ module _ (s : Choice) (k from skip next : ℕ) (kind : k < kinds) (offset : skip
       pick c high past (yes low) = before c low past
       pick c high past (no low) = kind-none c (omega arith) (omega arith) (omega arith) past
 
--- ---- the first difference
+-- ---- the codes below one
 
-unshared-same : (a b : Bool) → (a && not b || b && not a) ≡ false → a ≡ b
-unshared-same true true h = refl
-unshared-same true false h = h
-unshared-same false true h = sym h
-unshared-same false false h = refl
-
-unshared-differs : (a b : Bool) → (a && not b || b && not a) ≡ true → a ≡ b → ⊥
-unshared-differs true true h e = false≢true h
-unshared-differs true false h e = false≢true (sym e)
-unshared-differs false true h e = false≢true e
-unshared-differs false false h e = false≢true h
-
-pub unshared-lowest : (a b : ℕ) → a < 2 ^ width → b < 2 ^ width → FirstUnshared a b (lowest (joined (removed a b) (removed b a)))
-unshared-lowest a b ha hb = record {
-  same = λ g low. unshared-same (has a g) (has b g) (sym (parts g) ∙ lowest-first either g low);
-  differs = λ low. unshared-differs (has a (lowest either)) (has b (lowest either)) (sym (parts (lowest either)) ∙ lowest-in either fits low);
-}
-  where
-    either : ℕ
-    either = joined (removed a b) (removed b a)
-
-    fits : joined (removed a b) (removed b a) < 2 ^ width
-    fits = joined-lt width (removed a b) (removed b a) (removed-lt width a b ha) (removed-lt width b a hb)
-
-    parts : (g : ℕ) → has (joined (removed a b) (removed b a)) g ≡ (has a g && not (has b g) || has b g && not (has a g))
-    parts g = has-joined (removed a b) (removed b a) g ∙ ap₂ (λ x y. x || y) (has-removed a b g) (has-removed b a g)
-
--- The sets agree on every code before `end`.
-abbrev pub SameBelow : Choice → Choice → ℕ → Type 0
-SameBelow a b end = (c : ℕ) → c < end → inChoice a c ≡ inChoice b c
-
-module _ (a b : Choice) (k action : ℕ) (kind : k < kinds) (d : FirstUnshared (maskIn k a) (maskIn k b) action) where
-  kind-same : (c : ℕ) → perKind * k ≤ c → c < perKind * k + perKind → c < perKind * k + action → inChoice a c ≡ inChoice b c
-  kind-same c low high before = in-kind a k c low high ∙ d .same (c - perKind * k) (omega arith) ∙ sym (in-kind b k c low high)
-
-  pub same-through : SameBelow a b (perKind * k) → perKind ≤ action → SameBelow a b (perKind * k + perKind)
-  same-through before far c high = pick (decLt c (perKind * k))
-    where
-      pick : Dec (c < perKind * k) → inChoice a c ≡ inChoice b c
-      pick (yes low) = before c low
-      pick (no low) = kind-same c (omega arith) high (omega arith)
-
-  pub differs-here : (code : ℕ) → code ≡ perKind * k + action → SameBelow a b (perKind * k) → action < perKind
-      → FirstDifference a b code
-  differs-here code e before near = record {
-    within = omega arith;
-    same = λ c high. pick c high (decLt c (perKind * k));
-    differs = λ h same. d .differs (omega arith) (sym (at a) ∙ same ∙ at b);
-  }
-    where
-      at : (s : Choice) → inChoice s code ≡ has (maskIn k s) action
-      at s =
-          let back : code - perKind * k ≡ action = omega arith in
-          in-kind s k code (omega arith) (omega arith) ∙ ap (λ n. has (maskIn k s) n) back
-
-      pick : (c : ℕ) → c < code → Dec (c < perKind * k) → inChoice a c ≡ inChoice b c
-      pick c high (yes low) = before c low
-      pick c high (no low) = kind-same c (omega arith) (omega arith) (omega arith)
+-- The masks of the codes below n: of kind k the actions below n - 32k.
+pub masks-below : (n : ℕ) (s : Choice) → ((k : ℕ) → k < kinds → maskIn k s ≡ below (n - perKind * k)) → CodesBelow n s
+masks-below n s masks code h =
+    in-kind s (codeKind code) code (omega arith) (omega arith) ∙
+    ap (λ m. has m (code - perKind * codeKind code)) (masks (codeKind code) (omega arith)) ∙
+    has-below (n - perKind * codeKind code) (code - perKind * codeKind code) ∙
+    same-flag (ltb (code - perKind * codeKind code) (min (n - perKind * codeKind code) width)) (ltb code n)
+    (λ t.
+    lt-ltb code n (omega (arith, ltb-true (code - perKind * codeKind code) (min (n - perKind * codeKind code) width) t)))
+    (λ t. lt-ltb (code - perKind * codeKind code) (min (n - perKind * codeKind code) width) (omega (arith, ltb-true code n t)))

@@ -1,30 +1,28 @@
--- Why the search finds the first of the shortest: what a try, a choice between two tries and a conflict give.
-use mathlib.Core.Bool.{Bool, true, false, not, _&&_, false≢true, true≢false}
+-- Why the search finds a list exactly if there is one: what a candidate, what it lacks and a try give.
+use mathlib.Core.Bool.{Bool, true, false, not, false≢true, true≢false}
 use mathlib.Core.List.{List}
 use mathlib.Core.Logic.{_⊎_, inl, inr}
 use mathlib.Core.Path.{_≡_, refl, sym, ap, _∙_, subst, fun-ext}
 use Prim.Native.Nat.{ℕ, _+_, _-_, _%_, _<_, _≤_}
-use native.Mathlib.Decide.{decLt}
 use native.Mathlib.Omega.{arith}
-use borrow.Author.Tests.{not-true}
+use borrow.Author.Tests.{ltb-true, ltb-false}
+use lib.Dec.{ltb}
 use lib.ListN.{length}
-use Rattle.table.specs.Answer.{Permitted, First}
+use Rattle.table.specs.Answer.{Permitted}
 use Rattle.table.specs.Order.{isIn, _≼_}
 use Rattle.table.specs.Repairs.{permitted, repaired}
-use Rattle.table.specs.Sizes.{maxRow, perFact}
+use Rattle.table.specs.Sizes.{perFact}
 use Rattle.table.specs.Strips.{Right, stateAt}
-use Rattle.table.proofs.AnswerLaws.{first-same}
-use Rattle.table.proofs.FlagLaws.{both, and-both, is-false}
-use Rattle.table.proofs.OrderLaws.{compared, ≼-refl, ≼-trans, ≼-length, subset-first}
+use Rattle.table.proofs.FlagLaws.{is-false}
+use Rattle.table.proofs.OrderLaws.{compared, ≼-length, subset-first}
 use Rattle.search.specs.declared.Column.{Column}
 use Rattle.search.specs.declared.Choice.{Choice}
-use Rattle.search.specs.declared.Found.{Found}
-use Rattle.search.specs.Choices.{nothing, inChoice, listOf, codeNumber, Contains, Misses, Apart}
+use Rattle.search.specs.Choices.{inChoice, listOf, codeNumber, Contains, Apart, Shares}
 use Rattle.search.specs.Columns.{cellsIn, courseIn, KeepsIn}
-use Rattle.search.specs.Searching.{cellsWith, NeededAt, Missing, Allowed, Conflicts, Among, AllAfter, Later, OrBefore, FirstFound, Chosen, Shortest}
+use Rattle.search.specs.Searching.{cellsWith, NeededAt, Missing, Allowed, Conflicts, Lacks, Complete, Lacking, Among, SomeOf, OutFor}
 use Rattle.search.specs.Gaps.{Gap}
-use Rattle.search.specs.Trying.{withRepair, withoutThose, NextIn, FoundEarlier}
-use Rattle.search.proofs.ChoiceLaws.{listOf-ascending, listOf-from, listOf-has, listOf-members, list-misses, contains-list, in-without, with-keeps, with-cases, with-length, contains-with, contains-without, contains-repair, nothing-list, nothing-contained, nothing-missed, nothing-apart, find-code}
+use Rattle.search.specs.Trying.{withRepair, withoutThose, NextIn, Sharing}
+use Rattle.search.proofs.ChoiceLaws.{listOf-ascending, listOf-from, listOf-has, listOf-members, list-misses, contains-list, in-without-cases, left-over, with-has, with-keeps, with-other, with-cases, with-length, contains-with, contains-without}
 
 -- ---- a candidate and its list
 
@@ -110,312 +108,183 @@ pub gap-missing : (col : Column) (s : Choice) (j : ℕ) → Gap col s j → j �
 gap-missing col s j (Gap.missing-at low m) h = m
 gap-missing col s j (Gap.nowhere e right) h = absurd (omega arith)
 
--- Missing at one place, the fact is missing at whichever place is given.
-pub gap-other : (col : Column) (s : Choice) (i j : ℕ) → Missing col s i → Gap col s j → Missing col s j
-gap-other col s i j missing (Gap.missing-at low m) = m
-gap-other col s i j missing (Gap.nowhere e right) = absurd (missing-wrong col s i missing right)
+-- ---- what a candidate lacks
 
--- ---- the first found of a set of lists
+-- A conflict, without what is out.
+pub conflict-lacks : (col : Column) (s out want q : Choice) → Conflicts col s q → Lacks col s out want (withoutThose q out)
+conflict-lacks col s out want q conflict = record {
+  meets = λ l h. left-over q out (isIn l) (col .fact) (h .misses) (conflict .meets l (h .keeps));
+  fresh = λ code h t. conflict .fresh code h (in-without-cases q out code t .0);
+  apart = λ code h t. in-without-cases q out code t .1;
+  allowed = λ code h t. conflict .allowed code h (in-without-cases q out code t .0);
+}
 
-module _ (f : ℕ) (G : List ℕ → Type 0) where
-  -- The same set of lists, said in two ways.
-  pub found-same : (H : List ℕ → Type 0) → ((l : List ℕ) → G l → H l) → ((l : List ℕ) → H l → G l)
-      → (any : Bool) (r : Choice) → FirstFound f G any r → FirstFound f H any r
-  found-same H there back true r h = first-same G H there back (listOf f r) h
-  found-same H there back false r h = λ l t. h l (back l t)
+-- What is wanted, where the candidate has none of it, without what is out.
+pub wanted-lacks : (col : Column) (s out want : Choice) → Allowed col want → (Shares s want → ⊥) → Lacks col s out want (withoutThose want out)
+wanted-lacks col s out want allowed unmet = record {
+  meets = λ l h. left-over want out (isIn l) (col .fact) (h .misses) (h .meets);
+  fresh = λ code h t. is-false (inChoice s code) (λ u. unmet (code, h, u, in-without-cases want out code t .0));
+  apart = λ code h t. in-without-cases want out code t .1;
+  allowed = λ code h t. allowed code h (in-without-cases want out code t .0);
+}
 
-  -- More lists, beside the one found before.
-  pub before-more : (H : List ℕ → Type 0) (best : Found) → ((l : List ℕ) → G l → H l) → (l : List ℕ) → OrBefore f best G l → OrBefore f best H l
-  before-more H best more l (OrBefore.before e q) = OrBefore.before e q
-  before-more H best more l (OrBefore.here g) = OrBefore.here (more l g)
+-- Nothing is wanting but what is wanted.
+pub lacking-right : (col : Column) (s out want : Choice) (j : ℕ) (met : Bool) → Allowed col want → Gap col s j → col .count < j → Sharing s want met
+    → Lacking col s out want (not met) (withoutThose want out)
+lacking-right col s out want j true allowed gap past shares = (gap-right col s j gap past, shares)
+lacking-right col s out want j false allowed gap past unmet = wanted-lacks col s out want allowed unmet
 
-  -- No list of G comes before the one found before: that stays.
-  pub found-stays : (best : Found) → AllAfter f best G → FirstFound f (OrBefore f best G) (best .any) (best .choice)
-  found-stays best later = pick (best .any) refl
-    where
-      least : (m : List ℕ) → OrBefore f best G m → listOf f (best .choice) ≼ m
-      least m (OrBefore.before e q) = subst (λ k. listOf f (best .choice) ≼ k) (sym q) (≼-refl (listOf f (best .choice)))
-      least m (OrBefore.here g) = later m g .1
+pub complete-gap : (col : Column) (s want : Choice) (j : ℕ) → Gap col s j → Shares s want → Complete col s want (ltb (col .count) j)
+complete-gap col s want j gap shares = pick (ltb (col .count) j) refl
+  where
+    pick : (t : Bool) → ltb (col .count) j ≡ t → Complete col s want t
+    pick true t = (gap-right col s j gap (ltb-true (col .count) j t), shares)
+    pick false t = λ right _. missing-wrong col s j (gap-missing col s j gap (ltb-false (col .count) j t)) right
 
-      some : (m : List ℕ) → OrBefore f best G m → best .any ≡ true
-      some m (OrBefore.before e q) = e
-      some m (OrBefore.here g) = later m g .0
-
-      pick : (t : Bool) → best .any ≡ t → FirstFound f (OrBefore f best G) t (best .choice)
-      pick true e = record { member = OrBefore.before e refl; least = least }
-      pick false e = λ l t. false≢true (sym e ∙ some l t)
-
--- Two sets of lists, G and H, that make up K: the first found b of G, and then the first found r of b and H.
-module _ (f : ℕ) (G H K : List ℕ → Type 0) (left : (l : List ℕ) → G l → K l) (right : (l : List ℕ) → H l → K l)
-    (either : (l : List ℕ) → K l → G l ⊎ H l) (b r : Found) (first-G : FirstFound f G (b .any) (b .choice)) where
-  leads : AllAfter f b G
-  leads m g = pick (b .any) refl first-G
-    where
-      pick : (t : Bool) → b .any ≡ t → FirstFound f G t (b .choice) → (b .any ≡ true) × (listOf f (b .choice) ≼ m)
-      pick true e h = (e, h .least m g)
-      pick false e h = absurd (h m g)
-
-  -- A list of K has one of b and H that is not after it.
-  known : (m : List ℕ) → G m ⊎ H m → (l : List ℕ) × OrBefore f b H l × (l ≼ m)
-  known m (inl g) = (listOf f (b .choice), OrBefore.before (leads m g .0) refl, leads m g .1)
-  known m (inr h) = (m, OrBefore.here h, ≼-refl m)
-
-  part : (l : List ℕ) → OrBefore f b H l → K l
-  part l (OrBefore.before e q) = subst K (sym q) (left (listOf f (b .choice)) (subst (λ t. FirstFound f G t (b .choice)) e first-G .member))
-  part l (OrBefore.here h) = right l h
-
-  -- It is the first found of K.
-  pub found-more : FirstFound f (OrBefore f b H) (r .any) (r .choice) → FirstFound f K (r .any) (r .choice)
-  found-more first = pick (r .any) first
-    where
-      pick : (t : Bool) → FirstFound f (OrBefore f b H) t (r .choice) → FirstFound f K t (r .choice)
-      pick true h = record {
-        member = part (listOf f (r .choice)) (h .member);
-        least = λ m k. let o = known m (either m k) in ≼-trans (listOf f (r .choice)) (o .0) m (h .least (o .0) (o .1)) (o .2);
-      }
-      pick false h = λ m k. let o = known m (either m k) in h (o .0) (o .1)
+-- A candidate that fails lacks something.
+pub fails-lacks : (col : Column) (s out want q : Choice) (any : Bool) → Complete col s want false → Lacking col s out want any q → Lacks col s out want q
+fails-lacks col s out want q true fails lacks = lacks
+fails-lacks col s out want q false fails complete = absurd (fails (complete .0) (complete .1))
 
 -- ---- a test's own answers
 
-module _ (col : Column) (s out : Choice) (left : ℕ) (best : Found) where
-  -- No list of the candidate comes before the one found before.
-  pub later-stays : Later col s out left best → Chosen col s out (length (listOf (col .fact) s) + left) best best
-  later-stays later = found-stays (col .fact) (Among col s out (length (listOf (col .fact) s) + left)) best later
+-- A candidate that lacks nothing is a list that is looked for.
+pub candidate-among : (col : Column) (s out want : Choice) (left : ℕ) → Allowed col s → Apart s out → Complete col s want true
+    → Among col s out want (length (listOf (col .fact) s) + left) (listOf (col .fact) s)
+candidate-among col s out want left allowed apart complete = record {
+  sought = record {
+    keeps = right-keeps col s allowed (complete .0);
+    misses = list-misses (col .fact) s out apart;
+    meets = let m = complete .1 in (m .0, m .1, m .3, listOf-has (col .fact) s (m .0) (m .1) (m .2));
+  };
+  contains = listOf-has (col .fact) s;
+  short = omega arith;
+}
 
-  -- No gap: the candidate itself is the first of the lists that contain it, and it comes before the one found before.
-  pub candidate-taken : Allowed col s → Apart s out → Right (cellsWith col s) (courseIn col) (col .fact) → FoundEarlier best s false
-      → First (OrBefore (col .fact) best (Among col s out (length (listOf (col .fact) s) + left))) (listOf (col .fact) s)
-  candidate-taken allowed apart right later = record {
-    member = OrBefore.here (record {
-      keeps = right-keeps col s allowed right;
-      contains = listOf-has (col .fact) s;
-      misses = list-misses (col .fact) s out apart;
-      short = omega arith;
-    });
-    least = least;
+-- More is out, and nothing that a list has: the lists are the same.
+module _ (col : Column) (s out want r : Choice) (k : ℕ) (more : OutFor col s out want k r) where
+  pub among-fewer : (l : List ℕ) → Among col s out want k l → Among col s r want k l
+  among-fewer l a = record {
+    sought = record { keeps = a .sought .keeps; misses = more .misses l a; meets = a .sought .meets };
+    contains = a .contains;
+    short = a .short;
   }
-    where
-      least : (m : List ℕ) → OrBefore (col .fact) best (Among col s out (length (listOf (col .fact) s) + left)) m → listOf (col .fact) s ≼ m
-      least m (OrBefore.before e q) = subst (λ k. listOf (col .fact) s ≼ k) (sym q) (later e (col .fact))
-      least m (OrBefore.here a) = contained-first col s m (a .keeps) (a .contains)
 
--- ---- a conflict without the repairs that are out
+  pub among-more : (l : List ℕ) → Among col s r want k l → Among col s out want k l
+  among-more l a = record {
+    sought = record {
+      keeps = a .sought .keeps;
+      misses = λ code h t. a .sought .misses code h (more .before code h t);
+      meets = a .sought .meets;
+    };
+    contains = a .contains;
+    short = a .short;
+  }
 
-pub conflict-without : (col : Column) (s out q : Choice) → Conflicts col s nothing q → Conflicts col s out (withoutThose q out)
-conflict-without col s out q conflict = record {
-  meets = met;
-  fresh = λ code h t. conflict .fresh code h (parts code t .0);
-  apart = λ code h t. not-true (inChoice out code) (parts code t .1);
-  allowed = λ code h t. conflict .allowed code h (parts code t .0);
-}
-  where
-    parts : (code : ℕ) → inChoice (withoutThose q out) code ≡ true → (inChoice q code ≡ true) × (not (inChoice out code) ≡ true)
-    parts code t = both (inChoice q code) (not (inChoice out code)) (sym (in-without q out code) ∙ t)
+  pub some-fewer : (any : Bool) (found : Choice) → SomeOf (col .fact) (Among col s r want k) any found
+      → SomeOf (col .fact) (Among col s out want k) any found
+  some-fewer true found a = among-more (listOf (col .fact) found) a
+  some-fewer false found none = λ l a. none l (among-fewer l a)
 
-    met : (l : List ℕ) → KeepsIn col l → Misses (isIn l) (col .fact) out
-        → (code : ℕ) × (code < perFact) × (inChoice (withoutThose q out) code ≡ true) × (isIn l (codeNumber (col .fact) code) ≡ true)
-    met l keeps misses =
-        let m = conflict .meets l keeps (nothing-missed (isIn l) (col .fact)) in
-        let here : inChoice out (m .0) ≡ false = is-false (inChoice out (m .0)) (λ t. true≢false (sym (m .3) ∙ misses (m .0) (m .1) t)) in
-        (m .0, m .1, in-without q out (m .0) ∙ and-both (inChoice q (m .0)) _ (m .2) (ap not here), m .3)
+-- ---- a branch's loop over the codes of what is lacking
 
--- ---- a branch's loop over the codes of a conflict
+-- What is out when the loop comes to code i: what was out before it and the repairs of q that were tried, and none of the lists
+-- has one of them.
+pub record OutAt (col : Column) (s out want q : Choice) (k i : ℕ) (now : Choice) : Type 0 where
+  pub outs : OutFor col s out want k now
+  pub tried : (c : ℕ) → c < perFact → c < i → inChoice q c ≡ true → inChoice now c ≡ true
+  pub only : (c : ℕ) → c < perFact → inChoice now c ≡ true → (inChoice out c ≡ true) ⊎ (c < i)
 
--- The lists of a candidate that have one of the repairs tried so far: those of the conflict q with a code below i.
-pub record Tried (col : Column) (s out q : Choice) (k i : ℕ) (l : List ℕ) : Type 0 where
-  pub among : Among col s out k l
-  pub code : ℕ
-  pub below : code < i
-  pub repair : inChoice q code ≡ true
-  pub present : isIn l (codeNumber (col .fact) code) ≡ true
+module _ (col : Column) (s out want q : Choice) (k : ℕ) where
+  pub out-first : (i : ℕ) → Apart s out → NextIn q 0 i → OutAt col s out want q k i out
+  out-first i apart next = record {
+    outs = record { before = λ c h t. t; apart = apart; misses = λ l a. a .sought .misses };
+    tried = λ c h low t. absurd (false≢true (sym (next .absent c low (omega arith)) ∙ t));
+    only = λ c h t. inl t;
+  }
 
--- What is out when the loop comes to code i: what was out before it, and beside that only repairs that were tried.
-pub record OutAt (out q : Choice) (i : ℕ) (now : Choice) : Type 0 where
-  pub before : (c : ℕ) → c < perFact → inChoice out c ≡ true → inChoice now c ≡ true
-  pub only : (c : ℕ) → c < perFact → inChoice now c ≡ true → (inChoice out c ≡ true) ⊎ ((c < i) × (inChoice q c ≡ true))
+  module _ (lacks : Lacks col s out want q) (now : Choice) (i : ℕ) (h : i < perFact) (here : inChoice q i ≡ true)
+      (at : OutAt col s out want q k i now) where
+    -- The repair that is tried is not out.
+    not-out : inChoice now i ≡ false
+    not-out = is-false (inChoice now i) (λ t. pick (at .only i h t))
+      where
+        pick : (inChoice out i ≡ true) ⊎ (i < i) → ⊥
+        pick (inl t) = true≢false (sym t ∙ lacks .apart i h here)
+        pick (inr low) = absurd (omega arith)
 
-pub out-first : (out q : Choice) (i : ℕ) → OutAt out q i out
-out-first out q i = record { before = λ c h t. t; only = λ c h t. inl t }
+    -- The candidate with it has nothing that is out.
+    pub apart-with : Apart (withRepair s i) now
+    apart-with c hc t = pick (with-cases s i c h hc t)
+      where
+        pick : (c ≡ i) ⊎ (inChoice s c ≡ true) → inChoice now c ≡ false
+        pick (inl e) = ap (inChoice now) e ∙ not-out
+        pick (inr u) = at .outs .apart c hc u
 
-pub out-next : (out q now : Choice) (i next : ℕ) → i < perFact → i < next → inChoice q i ≡ true → OutAt out q i now
-    → OutAt out q next (withRepair now i)
-out-next out q now i next h after here at = record {
-  before = λ c hc t. with-keeps now i c h hc (at .before c hc t);
-  only = λ c hc t. pick c hc (with-cases now i c h hc t);
-}
-  where
-    later : (c : ℕ) → (inChoice out c ≡ true) ⊎ ((c < i) × (inChoice q c ≡ true)) → (inChoice out c ≡ true) ⊎ ((c < next) × (inChoice q c ≡ true))
-    later c (inl t) = inl t
-    later c (inr w) = inr (omega (arith, w .0), w .1)
+    module _ (left : ℕ) (some : 0 < left) (e : k ≡ length (listOf (col .fact) s) + left) (w : Choice) (one : w ≡ withRepair s i) where
+      longer : length (listOf (col .fact) w) + (left - 1) ≡ k
+      longer = omega (arith, e, ap (λ x. length (listOf (col .fact) x)) one, with-length (col .fact) s i h (lacks .fresh i h here))
 
-    pick : (c : ℕ) → c < perFact → (c ≡ i) ⊎ (inChoice now c ≡ true) → (inChoice out c ≡ true) ⊎ ((c < next) × (inChoice q c ≡ true))
-    pick c hc (inl e) = inr (omega arith, subst (λ k. inChoice q k ≡ true) (sym e) here)
-    pick c hc (inr t) = later c (at .only c hc t)
+      -- A list found with it is one of the candidate's.
+      pub found-with : (any : Bool) (found : Choice) → any ≡ true
+          → SomeOf (col .fact) (Among col w now want (length (listOf (col .fact) w) + (left - 1))) any found
+          → SomeOf (col .fact) (Among col s out want k) any found
+      found-with false found t a = absurd (false≢true t)
+      found-with true found t a =
+          let l = listOf (col .fact) found in
+          among-more col s out want now k (at .outs) l (record {
+            sought = a .sought;
+            contains = contains-without (isIn l) (col .fact) s i h (subst (Contains (isIn l) (col .fact)) one (a .contains));
+            short = omega (arith, a .short, longer);
+          })
 
-module _ (col : Column) (s out q now : Choice) (i : ℕ) (h : i < perFact) (conflict : Conflicts col s out q) (here : inChoice q i ≡ true)
-    (at : OutAt out q i now) where
-  -- The candidate with the repair that is tried has nothing that is out.
-  pub apart-with : Apart s out → Apart (withRepair s i) now
-  apart-with apart c hc t = is-false (inChoice now c) (λ u. pick (with-cases s i c h hc t) (at .only c hc u))
-    where
-      pick : (c ≡ i) ⊎ (inChoice s c ≡ true) → (inChoice out c ≡ true) ⊎ ((c < i) × (inChoice q c ≡ true)) → ⊥
-      pick (inl e) (inl o) = true≢false (sym o ∙ ap (inChoice out) e ∙ conflict .apart i h here)
-      pick (inl e) (inr w) = absurd (omega (arith, w .0))
-      pick (inr t) (inl o) = true≢false (sym o ∙ apart c hc t)
-      pick (inr t) (inr w) = true≢false (sym t ∙ conflict .fresh c hc (w .1))
-
-  -- What has none of the conflict's repairs tried so far has nothing that is out.
-  misses-now : (l : List ℕ) → Misses (isIn l) (col .fact) out
-      → ((c : ℕ) → c < i → (inChoice q c && isIn l (codeNumber (col .fact) c)) ≡ false) → Misses (isIn l) (col .fact) now
-  misses-now l misses none c hc t = pick (at .only c hc t)
-    where
-      pick : (inChoice out c ≡ true) ⊎ ((c < i) × (inChoice q c ≡ true)) → isIn l (codeNumber (col .fact) c) ≡ false
-      pick (inl o) = misses c hc o
-      pick (inr w) = is-false _ (λ u. false≢true (sym (none c (w .0)) ∙ and-both (inChoice q c) _ (w .1) u))
-
--- What the loop knows when it comes to code i: the first found of those and the list found before.
-abbrev pub TriedBest : Column → Choice → Choice → Choice → ℕ → ℕ → Found → Found → Type 0
-TriedBest col s out q k i before best =
-    FirstFound (col .fact) (OrBefore (col .fact) before (Tried col s out q k i)) (best .any) (best .choice)
-
-module _ (col : Column) (s out q : Choice) (before : Found) where
-  -- The same list, with the loop at another place.
-  tried-at : (k i j : ℕ) (l : List ℕ) → (t : Tried col s out q k i l) → t .code < j → Tried col s out q k j l
-  tried-at k i j l t h = record { among = t .among; code = t .code; below = h; repair = t .repair; present = t .present }
-
-  pub loop-first : (k i : ℕ) → NextIn q 0 i → TriedBest col s out q k i before before
-  loop-first k i next =
-      found-stays (col .fact) (Tried col s out q k i) before
-      (λ l t. absurd (false≢true (sym (next .absent (t .code) (t .below) (omega arith)) ∙ t .repair)))
-
-  pub loop-next : (left i next : ℕ) (now : Choice) (best r : Found) → Conflicts col s out q → 0 < left → i < perFact → NextIn q (i + 1) next
-      → inChoice q i ≡ true → OutAt out q i now → TriedBest col s out q (length (listOf (col .fact) s) + left) i before best
-      → Chosen col (withRepair s i) now (length (listOf (col .fact) (withRepair s i)) + (left - 1)) best r
-      → TriedBest col s out q (length (listOf (col .fact) s) + left) next before r
-  loop-next left i next now best r conflict some h after here at first chosen =
-      found-more (col .fact) (OrBefore (col .fact) before (Tried col s out q k i)) (Among col (withRepair s i) now k)
-      (OrBefore (col .fact) before (Tried col s out q k next))
-      (before-more (col .fact) (Tried col s out q k i) (Tried col s out q k next) before
-      (λ l t. tried-at k i next l t (omega (arith, t .below, after .after))))
-      (λ l a. OrBefore.here (new l a)) either best r first
-      (subst (λ n. Chosen col (withRepair s i) now n best r) same chosen)
-    where
-      k : ℕ
-      k = length (listOf (col .fact) s) + left
-
-      same : length (listOf (col .fact) (withRepair s i)) + (left - 1) ≡ length (listOf (col .fact) s) + left
-      same = omega (arith, with-length (col .fact) s i h (conflict .fresh i h here))
-
-      -- What has the candidate with one repair more has the candidate and that repair.
-      new : (l : List ℕ) → Among col (withRepair s i) now k l → Tried col s out q k next l
-      new l a = record {
-        among = record {
-          keeps = a .keeps;
-          contains = contains-without (isIn l) (col .fact) s i h (a .contains);
-          misses = λ c hc t. a .misses c hc (at .before c hc t);
-          short = a .short;
+      -- No list has it: it is out from now on.
+      pub out-next : (any : Bool) (found : Choice) → any ≡ false
+          → SomeOf (col .fact) (Among col w now want (length (listOf (col .fact) w) + (left - 1))) any found
+          → (next : ℕ) → NextIn q (i + 1) next → OutAt col s out want q k next (withRepair now i)
+      out-next true found t a next after = absurd (true≢false t)
+      out-next false found t none next after = record {
+        outs = record {
+          before = λ c hc t. with-keeps now i c h hc (at .outs .before c hc t);
+          apart = λ c hc t.
+              with-other now i c h hc (λ d. true≢false (sym t ∙ ap (inChoice s) d ∙ lacks .fresh i h here)) ∙ at .outs .apart c hc t;
+          misses = λ l a c hc t. missed l a c hc (with-cases now i c h hc t);
         };
-        code = i;
-        below = omega (arith, after .after);
-        repair = here;
-        present = contains-repair (isIn l) (col .fact) s i h (a .contains);
+        tried = λ c hc low t. done c hc t low (compared c i);
+        only = λ c hc t. known c hc (with-cases now i c h hc t);
       }
+        where
+          absent : (l : List ℕ) → Among col s out want k l → isIn l (codeNumber (col .fact) i) ≡ false
+          absent l a =
+              is-false (isIn l (codeNumber (col .fact) i)) (λ t.
+              let b = among-fewer col s out want now k (at .outs) l a in
+              none l (record {
+                sought = b .sought;
+                contains = subst (Contains (isIn l) (col .fact)) (sym one) (contains-with (isIn l) (col .fact) s i h (b .contains) t);
+                short = omega (arith, b .short, longer);
+              }))
 
-      -- A list that has this repair has one that was tried before it, or is one of the candidate with it.
-      with-this : (l : List ℕ) (t : Tried col s out q k next l) → t .code ≡ i
-          → ((c : ℕ) × (c < i) × ((inChoice q c && isIn l (codeNumber (col .fact) c)) ≡ true))
-          ⊎ ((c : ℕ) → c < i → (inChoice q c && isIn l (codeNumber (col .fact) c)) ≡ false)
-          → OrBefore (col .fact) before (Tried col s out q k i) l ⊎ Among col (withRepair s i) now k l
-      with-this l t e (inl w) =
-          let m = both (inChoice q (w .0)) (isIn l (codeNumber (col .fact) (w .0))) (w .2) in
-          inl (OrBefore.here (record { among = t .among; code = w .0; below = w .1; repair = m .0; present = m .1 }))
-      with-this l t e (inr none) = inr (record {
-        keeps = t .among .keeps;
-        contains = contains-with (isIn l) (col .fact) s i h (t .among .contains)
-            (subst (λ c. isIn l (codeNumber (col .fact) c) ≡ true) e (t .present));
-        misses = misses-now col s out q now i h conflict here at l (t .among .misses) none;
-        short = t .among .short;
-      })
+          missed : (l : List ℕ) → Among col s out want k l → (c : ℕ) → c < perFact → (c ≡ i) ⊎ (inChoice now c ≡ true)
+              → isIn l (codeNumber (col .fact) c) ≡ false
+          missed l a c hc (inl d) = ap (λ j. isIn l (codeNumber (col .fact) j)) d ∙ absent l a
+          missed l a c hc (inr t) = at .outs .misses l a c hc t
 
-      pick : (l : List ℕ) (t : Tried col s out q k next l) → (t .code < i) ⊎ ((t .code ≡ i) ⊎ (i < t .code))
-          → OrBefore (col .fact) before (Tried col s out q k i) l ⊎ Among col (withRepair s i) now k l
-      pick l t (inl low) = inl (OrBefore.here (tried-at k next i l t low))
-      pick l t (inr (inl e)) = with-this l t e (find-code (λ c. inChoice q c && isIn l (codeNumber (col .fact) c)) i)
-      pick l t (inr (inr high)) = absurd (false≢true (sym (after .absent (t .code) (t .below) (omega arith)) ∙ t .repair))
+          done : (c : ℕ) → c < perFact → inChoice q c ≡ true → c < next → (c < i) ⊎ ((c ≡ i) ⊎ (i < c)) → inChoice (withRepair now i) c ≡ true
+          done c hc t far (inl low) = with-keeps now i c h hc (at .tried c hc low t)
+          done c hc t far (inr (inl d)) = subst (λ j. inChoice (withRepair now i) j ≡ true) (sym d) (with-has now i h)
+          done c hc t far (inr (inr high)) = absurd (false≢true (sym (after .absent c far (omega arith)) ∙ t))
 
-      either : (l : List ℕ) → OrBefore (col .fact) before (Tried col s out q k next) l
-          → OrBefore (col .fact) before (Tried col s out q k i) l ⊎ Among col (withRepair s i) now k l
-      either l (OrBefore.before e u) = inl (OrBefore.before e u)
-      either l (OrBefore.here t) = pick l t (compared (t .code) i)
+          later : (c : ℕ) → (inChoice out c ≡ true) ⊎ (c < i) → (inChoice out c ≡ true) ⊎ (c < next)
+          later c (inl o) = inl o
+          later c (inr low) = inr (omega (arith, after .after))
 
-  -- Every repair of the conflict tried: nothing is left out.
-  pub loop-end : (k i : ℕ) (best : Found) → Conflicts col s out q → perFact ≤ i → TriedBest col s out q k i before best
-      → Chosen col s out k before best
-  loop-end k i best conflict h =
-      found-same (col .fact) (OrBefore (col .fact) before (Tried col s out q k i)) (OrBefore (col .fact) before (Among col s out k))
-      (before-more (col .fact) (Tried col s out q k i) (Among col s out k) before (λ l t. t .among))
-      (before-more (col .fact) (Among col s out k) (Tried col s out q k i) before met) (best .any) (best .choice)
-    where
-      met : (l : List ℕ) → Among col s out k l → Tried col s out q k i l
-      met l a =
-          let m = conflict .meets l (a .keeps) (a .misses) in
-          record { among = a; code = m .0; below = omega (arith, m .1); repair = m .2; present = m .3 }
+          known : (c : ℕ) → c < perFact → (c ≡ i) ⊎ (inChoice now c ≡ true) → (inChoice out c ≡ true) ⊎ (c < next)
+          known c hc (inl d) = inr (omega (arith, after .after))
+          known c hc (inr t) = later c (at .only c hc t)
 
--- ---- the whole search of a column
-
-module _ (col : Column) where
-  pub nothing-allowed : (s : Choice) → s ≡ nothing → Allowed col s
-  nothing-allowed s e = subst (Allowed col) (sym e) (nothing-contained (permitted (cellsIn col)) (col .fact))
-
-  pub nothing-out : (s : Choice) → s ≡ nothing → Apart s s
-  nothing-out s e = subst (λ w. Apart w w) (sym e) (nothing-apart nothing)
-
-  among-all : (k : ℕ) (l : List ℕ) → KeepsIn col l → length l ≤ k → Among col nothing nothing k l
-  among-all k l keeps h = record {
-    keeps = keeps;
-    contains = nothing-contained (isIn l) (col .fact);
-    misses = nothing-missed (isIn l) (col .fact);
-    short = h;
-  }
-
--- A search from the empty candidate, with nothing out and nothing found before, looks among all lists of at most so many repairs.
-module _ (col : Column) (s : Choice) (k : ℕ) (none found : Found) (start : s ≡ nothing) (fresh : none .any ≡ false)
-    (chosen : Chosen col s s (length (listOf (col .fact) s) + k) none found) where
-  first-all : FirstFound (col .fact) (Among col nothing nothing k) (found .any) (found .choice)
-  first-all =
-      subst (λ n. FirstFound (col .fact) (Among col nothing nothing n) (found .any) (found .choice)) length-none
-      (subst (λ w. FirstFound (col .fact) (Among col w w (length (listOf (col .fact) w) + k)) (found .any) (found .choice)) start
-      (found-same (col .fact) (OrBefore (col .fact) none (Among col s s (length (listOf (col .fact) s) + k)))
-      (Among col s s (length (listOf (col .fact) s) + k)) there (λ l a. OrBefore.here a) (found .any) (found .choice) chosen))
-    where
-      length-none : length (listOf (col .fact) nothing) + k ≡ k
-      length-none = omega (arith, ap length (nothing-list (col .fact)))
-
-      there : (l : List ℕ) → OrBefore (col .fact) none (Among col s s (length (listOf (col .fact) s) + k)) l
-          → Among col s s (length (listOf (col .fact) s) + k) l
-      there l (OrBefore.before e q) = absurd (false≢true (sym fresh ∙ e))
-      there l (OrBefore.here a) = a
-
-  pub shortest-found : k ≤ maxRow → found .any ≡ true → Shortest col (found .any) (found .choice)
-  shortest-found h e = subst (λ t. Shortest col t (found .choice)) (sym e) (first, omega (arith, best .member .short))
-    where
-      best : First (Among col nothing nothing k) (listOf (col .fact) (found .choice))
-      best = subst (λ t. FirstFound (col .fact) (Among col nothing nothing k) t (found .choice)) e first-all
-
-      pick : (m : List ℕ) → KeepsIn col m → Dec (k < length m) → listOf (col .fact) (found .choice) ≼ m
-      pick m keeps (yes longer) = inl (omega (arith, best .member .short))
-      pick m keeps (no no-longer) = best .least m (among-all col k m keeps (omega arith))
-
-      first : First (KeepsIn col) (listOf (col .fact) (found .choice))
-      first = record { member = best .member .keeps; least = λ m keeps. pick m keeps (decLt k (length m)) }
-
-  -- Nothing of at most k repairs: every list has more.
-  pub longer-than : found .any ≡ false → (l : List ℕ) → KeepsIn col l → k + 1 ≤ length l
-  longer-than e l keeps = pick (decLt k (length l))
-    where
-      empty : (l : List ℕ) → Among col nothing nothing k l → ⊥
-      empty = subst (λ t. FirstFound (col .fact) (Among col nothing nothing k) t (found .choice)) e first-all
-
-      pick : Dec (k < length l) → k + 1 ≤ length l
-      pick (yes longer) = omega arith
-      pick (no no-longer) = absurd (empty l (among-all col k l keeps (omega arith)))
+  -- Every repair of what is lacking tried: a list would have one of them.
+  pub out-all : Lacks col s out want q → (now : Choice) (i : ℕ) → perFact ≤ i → OutAt col s out want q k i now
+      → (l : List ℕ) → Among col s out want k l → ⊥
+  out-all lacks now i past at l a =
+      let m = lacks .meets l (a .sought) in
+      true≢false (sym (m .3) ∙ at .outs .misses l a (m .0) (m .1) (at .tried (m .0) (m .1) (omega (arith, m .1)) (m .2)))

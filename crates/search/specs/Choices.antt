@@ -48,3 +48,11 @@ Misses R f s = (code : ℕ) → code < perFact → inChoice s code ≡ true → 
 -- The choices share no repair.
 abbrev pub Apart : Choice → Choice → Type 0
 Apart a b = (code : ℕ) → code < perFact → inChoice a code ≡ true → inChoice b code ≡ false
+
+-- It has one of the choice.
+abbrev pub Meets : (ℕ → Bool) → ℕ → Choice → Type 0
+Meets R f s = (code : ℕ) × (code < perFact) × (inChoice s code ≡ true) × (R (codeNumber f code) ≡ true)
+
+-- The choices have a repair in common.
+abbrev pub Shares : Choice → Choice → Type 0
+Shares a b = (code : ℕ) × (code < perFact) × (inChoice a code ≡ true) × (inChoice b code ≡ true)

@@ -10,7 +10,7 @@ use Rattle.table.specs.Strips.{Right}
 use Rattle.search.specs.declared.Column.{Column}
 use Rattle.search.specs.declared.Choice.{Choice}
 use Rattle.search.specs.declared.narrow.Place.{Place}
-use Rattle.search.specs.Choices.{nothing, inChoice, codeOf}
+use Rattle.search.specs.Choices.{inChoice, codeOf}
 use Rattle.search.specs.Columns.{courseIn}
 use Rattle.search.specs.Searching.{cellsWith, Missing, Conflicts}
 
@@ -44,7 +44,7 @@ pub data Named (col : Column) (s : Choice) (j : ℕ) : ℕ → Type 0 where
 -- working list that contains the present candidate has one of" them.
 pub record ConflictAt (col : Column) (s : Choice) (j : ℕ) (q : Choice) : Type 0 where
   pub named : (code : ℕ) → code < perFact → (inChoice q code ≡ true) ↔ Named col s j code
-  pub conflicts : Conflicts col s nothing q
+  pub conflicts : Conflicts col s q
 
 -- m is the set of the actions of the steps at the places from `start` on and before `end`.
 pub record ActionsOf (col : Column) (start end : ℕ) (m : ℕ) : Type 0 where

@@ -5,14 +5,13 @@ use mathlib.Core.Path.{_≡_}
 use Prim.Native.Nat.{ℕ, _+_, _<_, _≤_}
 use lib.ListN.{length}
 use Rattle.table.specs.Answer.{First}
-use Rattle.table.specs.Order.{isIn, _≼_}
+use Rattle.table.specs.Order.{isIn}
 use Rattle.table.specs.Repairs.{permitted, repaired}
 use Rattle.table.specs.Sizes.{maxRow, perFact}
-use Rattle.table.specs.Strips.{Cells, stateAt}
+use Rattle.table.specs.Strips.{Cells, Right, stateAt}
 use Rattle.search.specs.declared.Column.{Column}
 use Rattle.search.specs.declared.Choice.{Choice}
-use Rattle.search.specs.declared.Found.{Found}
-use Rattle.search.specs.Choices.{inChoice, numbersIn, listOf, codeNumber, Contains, Misses, Apart}
+use Rattle.search.specs.Choices.{inChoice, numbersIn, listOf, codeNumber, Contains, Misses, Meets, Apart, Shares}
 use Rattle.search.specs.Columns.{cellsIn, courseIn, KeepsIn}
 
 -- The column's table with a candidate applied.
@@ -33,45 +32,80 @@ pub record Missing (col : Column) (s : Choice) (j : ℕ) : Type 0 where
 abbrev pub Allowed : Column → Choice → Type 0
 Allowed col s = (code : ℕ) → code < perFact → inChoice s code ≡ true → permitted (cellsIn col) (codeNumber (col .fact) code) ≡ true
 
--- q is a conflict of the candidate s where some repairs are out: every list that keeps the fact right (and so has permitted
--- repairs alone) and has none of those has one of q's, whether or not it contains s; none of q's is in s, none is out, and
--- each is permitted.
-pub record Conflicts (col : Column) (s out q : Choice) : Type 0 where
-  pub meets : (l : List ℕ) → KeepsIn col l → Misses (isIn l) (col .fact) out
-      → (code : ℕ) × (code < perFact) × (inChoice q code ≡ true) × (isIn l (codeNumber (col .fact) code) ≡ true)
+-- q is a conflict of the candidate s: every list that keeps the fact right (and so has permitted repairs alone) has one of its
+-- repairs, whether or not it contains s; none of them is in s, and each is permitted.
+pub record Conflicts (col : Column) (s q : Choice) : Type 0 where
+  pub meets : (l : List ℕ) → KeepsIn col l → Meets (isIn l) (col .fact) q
+  pub fresh : Apart q s
+  pub allowed : Allowed col q
+
+-- The lists that are looked for: those that keep the fact right, have none of the repairs that are out and one of those that
+-- are wanted.
+pub record Sought (col : Column) (out want : Choice) (l : List ℕ) : Type 0 where
+  pub keeps : KeepsIn col l
+  pub misses : Misses (isIn l) (col .fact) out
+  pub meets : Meets (isIn l) (col .fact) want
+
+-- The candidate s lacks a repair of q: every list that is looked for has one, and s has none. None of them is out, and each
+-- is permitted.
+pub record Lacks (col : Column) (s out want q : Choice) : Type 0 where
+  pub meets : (l : List ℕ) → Sought col out want l → Meets (isIn l) (col .fact) q
   pub fresh : Apart q s
   pub apart : Apart q out
   pub allowed : Allowed col q
 
--- The lists among which a search with a candidate chooses: those that keep the fact right, contain the candidate, have none
--- of the repairs that are out and have at most k repairs.
-pub record Among (col : Column) (s out : Choice) (k : ℕ) (l : List ℕ) : Type 0 where
-  pub keeps : KeepsIn col l
+-- Does the candidate lack nothing? It keeps the fact right, and has one of the repairs that are wanted.
+abbrev pub Complete : Column → Choice → Choice → Bool → Type 0
+Complete col s want true = Right (cellsWith col s) (courseIn col) (col .fact) × Shares s want
+Complete col s want false = Right (cellsWith col s) (courseIn col) (col .fact) → Shares s want → ⊥
+
+-- Repairs that the candidate lacks one of, if it lacks any.
+abbrev pub Lacking : Column → Choice → Choice → Choice → Bool → Choice → Type 0
+Lacking col s out want true q = Lacks col s out want q
+Lacking col s out want false q = Complete col s want true
+
+-- The lists among which a search with a candidate looks: those that are looked for, contain the candidate and have at most k
+-- repairs.
+pub record Among (col : Column) (s out want : Choice) (k : ℕ) (l : List ℕ) : Type 0 where
+  pub sought : Sought col out want l
   pub contains : Contains (isIn l) (col .fact) s
-  pub misses : Misses (isIn l) (col .fact) out
   pub short : length l ≤ k
 
--- Every list of G comes after the one found before, or is that one; so one was found before, unless G is empty.
-abbrev pub AllAfter : ℕ → Found → (List ℕ → Type 0) → Type 0
-AllAfter f best G = (l : List ℕ) → G l → (best .any ≡ true) × (listOf f (best .choice) ≼ l)
+-- One of the lists of G, or nothing exactly if G is empty.
+abbrev pub SomeOf : ℕ → (List ℕ → Type 0) → Bool → Choice → Type 0
+SomeOf f G true r = G (listOf f r)
+SomeOf f G false r = (l : List ℕ) → G l → ⊥
 
--- None of the candidate's lists with at most `left` repairs more comes before the one found before.
-abbrev pub Later : Column → Choice → Choice → ℕ → Found → Type 0
-Later col s out left best = AllAfter (col .fact) best (Among col s out (length (listOf (col .fact) s) + left))
+-- All of r is out for these lists: what was out before, and beside that what none of them has.
+pub record OutFor (col : Column) (s out want : Choice) (k : ℕ) (r : Choice) : Type 0 where
+  pub before : (code : ℕ) → code < perFact → inChoice out code ≡ true → inChoice r code ≡ true
+  pub apart : Apart s r
+  pub misses : (l : List ℕ) → Among col s out want k l → Misses (isIn l) (col .fact) r
 
--- The lists of G, and the one found before, if there is one.
-pub data OrBefore (f : ℕ) (best : Found) (G : List ℕ → Type 0) (l : List ℕ) : Type 0 where
-  before : best .any ≡ true → l ≡ listOf f (best .choice) → OrBefore f best G l
-  here : G l → OrBefore f best G l
+-- What is out for these lists, or that there are none.
+abbrev pub Reached : Column → Choice → Choice → Choice → ℕ → Bool → Choice → Type 0
+Reached col s out want k true r = OutFor col s out want k r
+Reached col s out want k false r = (l : List ℕ) → Among col s out want k l → ⊥
 
--- The first of the shortest lists of G, or nothing exactly if G is empty.
-abbrev pub FirstFound : ℕ → (List ℕ → Type 0) → Bool → Choice → Type 0
-FirstFound f G true r = First G (listOf f r)
-FirstFound f G false r = (l : List ℕ) → G l → ⊥
+-- The lists have the same repairs of fact f with codes below n.
+abbrev pub Agree : ℕ → ℕ → List ℕ → List ℕ → Type 0
+Agree f n a b = (code : ℕ) → code < perFact → code < n → isIn a (codeNumber f code) ≡ isIn b (codeNumber f code)
 
--- What `test` and `branch` give, of the candidate's lists and the one found before.
-abbrev pub Chosen : Column → Choice → Choice → ℕ → Found → Found → Type 0
-Chosen col s out k best r = FirstFound (col .fact) (OrBefore (col .fact) best (Among col s out k)) (r .any) (r .choice)
+-- The lists that could come before the best so far where `from` is reached: no longer, the same below `from`, and then with a
+-- repair before the code n.
+pub record Earlier (col : Column) (best : Choice) (from n : ℕ) (l : List ℕ) : Type 0 where
+  pub keeps : KeepsIn col l
+  pub same : Agree (col .fact) from l (listOf (col .fact) best)
+  pub one : (code : ℕ) × (code < perFact) × (from ≤ code) × (code < n) × (isIn l (codeNumber (col .fact) code) ≡ true)
+  pub short : length l ≤ length (listOf (col .fact) best)
+
+-- A shortest list that keeps the column's fact right, if that has at most six repairs; or nothing, and then every list that
+-- does has more.
+abbrev pub Short : Column → Bool → Choice → Type 0
+Short col true r =
+    KeepsIn col (listOf (col .fact) r) × (length (listOf (col .fact) r) ≤ maxRow)
+    × ((l : List ℕ) → KeepsIn col l → length (listOf (col .fact) r) ≤ length l)
+Short col false r = (l : List ℕ) → KeepsIn col l → maxRow < length l
 
 -- What the whole search of a column gives: the first of the shortest lists that keep its fact right, if that has at
 -- most six; or nothing, and then every list that does has more.

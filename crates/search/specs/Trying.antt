@@ -1,14 +1,13 @@
--- What the search does with sets of repairs: one repair more, two sets as one, which of two sets comes first.
+-- What the search does with sets of repairs: one repair more, two sets as one, what two share, a set's codes in turn.
 use mathlib.Core.Bool.{Bool, true, false}
 use mathlib.Core.Path.{_≡_}
 use Prim.Native.Nat.{ℕ, _<_, _≤_}
-use Rattle.facts.specs.Sets.{width, has, joined, removed, only}
-use Rattle.table.specs.Order.{_≼_}
+use lib.Dec.{ltb}
+use Rattle.facts.specs.Sets.{width, has, joined, shared, removed, only}
 use Rattle.table.specs.Repairs.{byKind}
 use Rattle.table.specs.Sizes.{perFact}
 use Rattle.search.specs.declared.Choice.{Choice}
-use Rattle.search.specs.declared.Found.{Found}
-use Rattle.search.specs.Choices.{codeKind, codeAction, inChoice, listOf}
+use Rattle.search.specs.Choices.{codeKind, codeAction, inChoice, Shares}
 
 -- A set with another set of actions for one kind.
 abbrev pub withMask : ℕ → ℕ → Choice → Choice
@@ -40,6 +39,18 @@ withoutThose a b = record {
   needs = removed (a .needs) (b .needs);
 }
 
+-- The repairs that are in both sets.
+unfoldable pub sharedBy : Choice → Choice → Choice
+sharedBy a b = record {
+  deletes = shared (a .deletes) (b .deletes);
+  adds = shared (a .adds) (b .adds);
+  needs = shared (a .needs) (b .needs);
+}
+
+-- The repairs whose codes are below n.
+abbrev pub CodesBelow : ℕ → Choice → Type 0
+CodesBelow n s = (code : ℕ) → code < perFact → inChoice s code ≡ ltb code n
+
 -- The first action from `skip` on that is in the set, or a number outside where none is.
 pub record NextAction (m skip next : ℕ) : Type 0 where
   pub absent : (a : ℕ) → a < next → skip ≤ a → has m a ≡ false
@@ -53,23 +64,7 @@ pub record NextIn (s : Choice) (from next : ℕ) : Type 0 where
   pub absent : (code : ℕ) → code < next → from ≤ code → inChoice s code ≡ false
   pub present : next < perFact → inChoice s next ≡ true
 
--- The first action that is in one of the sets and not in the other, or a number outside where they have the same.
-pub record FirstUnshared (m n action : ℕ) : Type 0 where
-  pub same : (a : ℕ) → a < action → has m a ≡ has n a
-  pub differs : action < width → has m action ≡ has n action → ⊥
-
--- The first code that is in one of the sets and not in the other, or `perFact` where they have the same.
-pub record FirstDifference (a b : Choice) (code : ℕ) : Type 0 where
-  pub within : code ≤ perFact
-  pub same : (c : ℕ) → c < code → inChoice a c ≡ inChoice b c
-  pub differs : code < perFact → inChoice a code ≡ inChoice b code → ⊥
-
--- Does the list of a come first, or that of b? (Of whichever fact: its number is in every repair of both.)
-abbrev pub Earlier : Choice → Choice → Bool → Type 0
-Earlier a b true = (f : ℕ) → listOf f a ≼ listOf f b
-Earlier a b false = (f : ℕ) → listOf f b ≼ listOf f a
-
--- Was a list found before that comes before that of s, or is the same? If not, that of s comes first.
-abbrev pub FoundEarlier : Found → Choice → Bool → Type 0
-FoundEarlier best s true = (best .any ≡ true) × ((f : ℕ) → listOf f (best .choice) ≼ listOf f s)
-FoundEarlier best s false = best .any ≡ true → (f : ℕ) → listOf f s ≼ listOf f (best .choice)
+-- Have the sets a repair in common?
+abbrev pub Sharing : Choice → Choice → Bool → Type 0
+Sharing a b true = Shares a b
+Sharing a b false = Shares a b → ⊥

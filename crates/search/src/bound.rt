@@ -1,55 +1,46 @@
-// What the lists with a candidate cost at the least, and which of them could come first: conflicts that share no repair
-// each cost a repair of their own, the first of theirs or a later one. A candidate none of whose lists is short enough and
-// comes before the one found before need not be tried any further (document 01, "When a candidate still fails": "the first
-// of the shortest is then chosen among all the lists found").
+// How far the lists with a candidate reach: sets of repairs that share none, each lacking to the candidate with the earlier ones
+// put in, cost a repair each.
 use crate::Choice;
 use crate::Column;
 use crate::Found;
 use crate::choices;
-use crate::conflict;
-use crate::gap;
-use crate::narrow;
+use crate::lack;
 use table::repair::Repair;
-ghost use mathlib.Core.Bool.{true};
-ghost use mathlib.Core.Path.{_≡_};
+ghost use Prim.Native.Nat.{_+_};
+ghost use lib.ListN.{length};
+ghost use Rattle.search.specs.Choices.{listOf, Apart};
 ghost use Rattle.search.specs.Columns.{ColumnFormed};
-ghost use Rattle.search.specs.Searching.{Conflicts, Later};
+ghost use Rattle.search.specs.Searching.{Allowed, Reached};
 
-// Has none of the lists that keep the fact right, contain the candidate, have none of the repairs that are out and have at
-// most `left` repairs more a place before the list found before? `true` is sure, `false` says nothing. The first conflict is
-// q, and each other is one of the candidate with the earlier conflicts put in, and so shares no repair with them; what is
-// out does not count, and where nothing else is left of a conflict there is no list. Where the fact is missing even after
-// `left` of them, a list needs one repair more; else no list comes before the candidate with the first repair of each.
-pub(crate) fn comes_later(
-    col: Column,
-    s: Choice,
-    q: Choice,
-    out: Choice,
-    left: usize,
-    best: Found,
-) -> bool
+// All that is out for the lists that are looked for, contain the candidate and have at most `left` repairs more; nothing where
+// it is sure that there is no such list. Where as many sets as repairs are left share no repair, a list has one of each and
+// nothing beside them: what is in none of them is out too, and if all of them together are not enough there is no list.
+pub(crate) fn reach(col: Column, s: Choice, out: Choice, want: Choice, left: usize) -> Found
     requires { ⌜ ColumnFormed col ⌝ }
-    requires { ⌜ Conflicts col s out q ⌝ }
-    ensures { λ r. ⌜ (r ≡ true → Later col s out left best) ⌝ }
+    requires { ⌜ Allowed col want ⌝ }
+    requires { ⌜ Apart s out ⌝ }
+    ensures { λ r. ⌜ Reached col s out want (length (listOf (col .fact) s) + left) (r .any) (r .choice) ⌝ }
 {
-    let count = col.count;
-    let mut passed = choices::joined(s, q);
-    let mut least = choices::with_repair(s, choices::next_in(q, 0));
-    for n in 1..left {
-        let j = narrow::narrowest_gap(col, passed, out);
-        if count < j {
-            return false;
+    let mut passed = s;
+    for n in 0..left {
+        let next = lack::lacking(col, passed, out, want);
+        if !next.any {
+            return Found {
+                any: true,
+                choice: out,
+            };
         }
-        let q = choices::without(conflict::conflict(col, passed, j), out);
-        let first = choices::next_in(q, 0);
-        if first == Repair::PER_FACT {
-            return true;
+        if choices::next_in(next.choice, 0) == Repair::PER_FACT {
+            return Found {
+                any: false,
+                choice: out,
+            };
         }
-        least = choices::with_repair(least, first);
-        passed = choices::joined(passed, q);
+        passed = choices::joined(passed, next.choice);
     }
-    if gap::first_gap(col, passed) <= count {
-        return true;
+    let rest = choices::without(choices::below(Repair::PER_FACT), passed);
+    Found {
+        any: lack::is_complete(col, passed, want),
+        choice: choices::joined(out, rest),
     }
-    choices::found_earlier(best, least)
 }

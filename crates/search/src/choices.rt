@@ -1,8 +1,6 @@
-// Sets of repairs of one fact: what is in one, one repair more, two as one, one without another, and which of two comes first.
+// Sets of repairs of one fact: one repair more, two as one, what two share, one without another, and a set's codes in turn.
 use crate::Choice;
-use crate::Found;
 use facts::below_mask;
-use facts::contains;
 use facts::count;
 use facts::join;
 use facts::lowest;
@@ -14,10 +12,10 @@ ghost use mathlib.Core.Path.{_≡_};
 ghost use Prim.Native.Nat.{ℕ, _-_, _*_, _<_, _≤_};
 ghost use Rattle.table.specs.Sizes.{kinds, perFact, perKind};
 ghost use lib.ListN.{length};
-ghost use Rattle.search.specs.Choices.{codeOf, inChoice, listOf};
+ghost use Rattle.search.specs.Choices.{codeOf, listOf};
 ghost use Rattle.search.specs.Choices as choices;
 ghost use Rattle.facts.specs.Sets.{sumBits};
-ghost use Rattle.search.specs.Trying.{withRepair, bothOf, withoutThose, NextAction, NextIn, FirstUnshared, FirstDifference, Earlier, FoundEarlier};
+ghost use Rattle.search.specs.Trying.{withRepair, bothOf, sharedBy, withoutThose, CodesBelow, NextAction, NextIn, Sharing};
 
 pub(crate) fn nothing() -> Choice
     ensures { λ r. ⌜ r ≡ choices.nothing ⌝ }
@@ -36,20 +34,6 @@ fn code_of(kind: usize, action: usize) -> usize
     ensures { λ r. ⌜ r ≡ codeOf kind action ⌝ }
 {
     Repair::PER_KIND * kind + action
-}
-
-pub(crate) fn in_choice(s: Choice, code: usize) -> bool
-    ensures { λ r. ⌜ r ≡ inChoice s code ⌝ }
-{
-    let kind = code / Repair::PER_KIND;
-    let action = code % Repair::PER_KIND;
-    if kind == Repair::DROP_DELETE {
-        return contains(s.deletes, action);
-    }
-    if kind == Repair::ADD_EFFECT {
-        return contains(s.adds, action);
-    }
-    contains(s.needs, action)
 }
 
 pub(crate) fn with_repair(s: Choice, code: usize) -> Choice
@@ -103,6 +87,17 @@ pub(crate) fn without(a: Choice, b: Choice) -> Choice
     }
 }
 
+// The repairs that are in both sets.
+pub(crate) fn shared(a: Choice, b: Choice) -> Choice
+    ensures { λ r. ⌜ r ≡ sharedBy a b ⌝ }
+{
+    Choice {
+        deletes: overlap(a.deletes, b.deletes),
+        adds: overlap(a.adds, b.adds),
+        needs: overlap(a.needs, b.needs),
+    }
+}
+
 // How many actions are in the set. A mask's higher places name no action.
 fn count_actions(m: u64) -> usize
     ensures { λ r. ⌜ r ≡ sumBits perKind m ⌝ }
@@ -124,6 +119,20 @@ fn passed(kind: usize, from: usize) -> usize
 {
     let first = code_of(kind, 0);
     if first < from { from - first } else { 0 }
+}
+
+// The repairs whose codes are below one.
+pub(crate) fn below(code: usize) -> Choice
+    ensures { λ r. ⌜ CodesBelow code r ⌝ }
+{
+    let deletes = passed(Repair::DROP_DELETE, code);
+    let adds = passed(Repair::ADD_EFFECT, code);
+    let needs = passed(Repair::DROP_NEED, code);
+    Choice {
+        deletes: below_mask(deletes),
+        adds: below_mask(adds),
+        needs: below_mask(needs),
+    }
 }
 
 // The first action of the set from `skip` on; PER_KIND or more where there is none.
@@ -153,51 +162,9 @@ pub(crate) fn next_in(s: Choice, from: usize) -> usize
     Repair::PER_FACT
 }
 
-// The first action that one of the sets has and the other has not; PER_KIND or more where there is none.
-fn first_unshared(a: u64, b: u64) -> usize
-    ensures { λ r. ⌜ FirstUnshared a b r ⌝ }
+// Have the sets a repair in common?
+pub(crate) fn share(a: Choice, b: Choice) -> bool
+    ensures { λ r. ⌜ Sharing a b r ⌝ }
 {
-    lowest(join(remove(a, b), remove(b, a)))
-}
-
-// The first code that one of the sets has and the other has not, or PER_FACT.
-pub(crate) fn first_difference(a: Choice, b: Choice) -> usize
-    ensures { λ r. ⌜ FirstDifference a b r ⌝ }
-{
-    let deletes = first_unshared(a.deletes, b.deletes);
-    if deletes < Repair::PER_KIND {
-        return deletes;
-    }
-    let adds = first_unshared(a.adds, b.adds);
-    if adds < Repair::PER_KIND {
-        return code_of(Repair::ADD_EFFECT, adds);
-    }
-    let needs = first_unshared(a.needs, b.needs);
-    if needs < Repair::PER_KIND {
-        return code_of(Repair::DROP_NEED, needs);
-    }
-    Repair::PER_FACT
-}
-
-// "Of two lists of equal length the one with the smaller number at the first difference comes first"; a shorter one
-// comes before either.
-pub(crate) fn comes_first(a: Choice, b: Choice) -> bool
-    ensures { λ r. ⌜ Earlier a b r ⌝ }
-{
-    let m = size(a);
-    let n = size(b);
-    if m == n {
-        return in_choice(a, first_difference(a, b));
-    }
-    m < n
-}
-
-// Was a list found before that comes before this one, or is this one?
-pub(crate) fn found_earlier(best: Found, s: Choice) -> bool
-    ensures { λ r. ⌜ FoundEarlier best s r ⌝ }
-{
-    if !best.any {
-        return false;
-    }
-    comes_first(best.choice, s)
+    next_in(shared(a, b), 0) < Repair::PER_FACT
 }

@@ -4,6 +4,8 @@ mod bound;
 mod choices;
 mod conflict;
 mod gap;
+mod lack;
+mod least;
 mod narrow;
 pub mod row;
 mod search;
@@ -33,7 +35,7 @@ pub struct Choice {
     pub needs: u64,
 }
 
-// What a search gives: the best choice, if it found any.
+// A set of repairs, if there is any that is as asked for.
 pub struct Found {
     pub any: bool,
     pub choice: Choice,

@@ -2,7 +2,7 @@
 use crate::Choice;
 use crate::choices;
 use crate::gap;
-use crate::search;
+use crate::least;
 use crate::view;
 use table::ROW_PLACES;
 use table::Task;
@@ -87,9 +87,9 @@ fn right_row(t: Task, f: usize) -> Filling
         return bare_row(0);
     }
     let col = view::column_of(t, f);
-    let least = search::shortest(col);
-    if least.any {
-        return row_of_choice(f, least.choice);
+    let found = least::shortest(col);
+    if found.any {
+        return row_of_choice(f, found.choice);
     }
     let count = col.count;
     if gap::first_gap(col, view::fullest(col)) <= count {

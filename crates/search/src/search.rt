@@ -1,96 +1,73 @@
-// The search for one fact's least list: a candidate is tested, and where it fails, each repair of its conflict is tried
+// The search for a list of one fact's repairs: a candidate is tested, and where it fails, each repair of what it lacks is tried
 // in turn (document 01: "When a candidate still fails .."). A repair that was tried is out for those after it, so that no set
-// of repairs is tried twice. The first of the shortest lists found so far goes along, and a candidate is left out where its
-// conflicts show that none of its lists is short enough and comes before that one.
+// of repairs is tried twice, and so is what no list can have that is short enough.
 use crate::Choice;
 use crate::Column;
 use crate::Found;
 use crate::bound;
 use crate::choices;
-use crate::conflict;
-use crate::gap;
-use crate::narrow;
-use table::ROW;
+use crate::lack;
 use table::repair::Repair;
+ghost use mathlib.Core.Bool.{false};
 ghost use Prim.Native.Nat.{_+_, _<_};
 ghost use lib.ListN.{length};
 ghost use Rattle.search.specs.Choices.{listOf, Apart};
 ghost use Rattle.search.specs.Columns.{ColumnFormed};
-ghost use Rattle.search.specs.Searching.{Allowed, Conflicts, Chosen, Shortest};
+ghost use Rattle.search.specs.Searching.{Allowed, Complete, Among, SomeOf};
 
-// The better of the list found before and the first of the shortest lists that keep the fact right, contain the candidate,
-// have none of the repairs that are out and have at most `left` repairs more.
-pub(crate) fn test(col: Column, s: Choice, out: Choice, left: usize, best: Found) -> Found
+// A list that keeps the fact right, has one of the repairs that are wanted and none of those that are out, contains the
+// candidate and has at most `left` repairs more; nothing exactly if there is none.
+pub(crate) fn test(col: Column, s: Choice, out: Choice, want: Choice, left: usize) -> Found
     requires { ⌜ ColumnFormed col ⌝ }
     requires { ⌜ Allowed col s ⌝ }
+    requires { ⌜ Allowed col want ⌝ }
     requires { ⌜ Apart s out ⌝ }
-    ensures { λ r. ⌜ Chosen col s out (length (listOf (col .fact) s) + left) best r ⌝ }
+    ensures { λ r. ⌜ SomeOf (col .fact) (Among col s out want (length (listOf (col .fact) s) + left)) (r .any) (r .choice) ⌝ }
 {
-    let count = col.count;
-    if count < gap::first_gap(col, s) {
-        if choices::found_earlier(best, s) {
-            return best;
-        }
+    if lack::is_complete(col, s, want) {
         return Found {
             any: true,
             choice: s,
         };
     }
+    let none = Found {
+        any: false,
+        choice: s,
+    };
     if left == 0 {
-        return best;
+        return none;
     }
-    let j = narrow::narrowest_gap(col, s, out);
-    let q = choices::without(conflict::conflict(col, s, j), out);
-    if bound::comes_later(col, s, q, out, left, best) {
-        return best;
+    let reached = bound::reach(col, s, out, want, left);
+    if !reached.any {
+        return none;
     }
-    branch(col, s, q, out, left, best)
+    branch(col, s, reached.choice, want, left)
 }
 
-// The same, for a candidate that fails: every list that contains it has one of the conflict's repairs. The first of these
+// The same, for a candidate that fails: every list that contains it has one of the repairs that it lacks. The first of these
 // that a list has is the one with which it is found, so those before it are out.
-pub(crate) fn branch(
-    col: Column,
-    s: Choice,
-    q: Choice,
-    out: Choice,
-    left: usize,
-    best: Found,
-) -> Found
+pub(crate) fn branch(col: Column, s: Choice, out: Choice, want: Choice, left: usize) -> Found
     requires { ⌜ ColumnFormed col ⌝ }
     requires { ⌜ Allowed col s ⌝ }
+    requires { ⌜ Allowed col want ⌝ }
     requires { ⌜ Apart s out ⌝ }
-    requires { ⌜ Conflicts col s out q ⌝ }
+    requires { ⌜ Complete col s want false ⌝ }
     requires { ⌜ 0 < left ⌝ }
-    ensures { λ r. ⌜ Chosen col s out (length (listOf (col .fact) s) + left) best r ⌝ }
+    ensures { λ r. ⌜ SomeOf (col .fact) (Among col s out want (length (listOf (col .fact) s) + left)) (r .any) (r .choice) ⌝ }
 {
-    let mut best = best;
+    let q = lack::lacking(col, s, out, want).choice;
     let mut out = out;
     let mut code = choices::next_in(q, 0);
     while code < Repair::PER_FACT {
-        best = test(col, choices::with_repair(s, code), out, left - 1, best);
-        out = choices::with_repair(out, code);
-        code = choices::next_in(q, code + 1);
-    }
-    best
-}
-
-// The first of the shortest lists that keep the column's fact right, if a row has room for it. Lengths are tried in
-// turn, so that a deep search is paid only where it is needed.
-pub(crate) fn shortest(col: Column) -> Found
-    requires { ⌜ ColumnFormed col ⌝ }
-    ensures { λ r. ⌜ Shortest col (r .any) (r .choice) ⌝ }
-{
-    let empty = choices::nothing();
-    let none = Found {
-        any: false,
-        choice: empty,
-    };
-    for left in 0..=ROW {
-        let found = test(col, empty, empty, left, none);
+        let found = test(col, choices::with_repair(s, code), out, want, left - 1);
         if found.any {
             return found;
         }
+        out = choices::with_repair(out, code);
+        code = choices::next_in(q, code + 1);
     }
-    none
+    Found {
+        any: false,
+        choice: s,
+    }
 }

@@ -1,36 +1,32 @@
 -- The cycle of calls of `search::search::test` and `branch`: `branch` at left calls `test` at left - 1, and `test` calls
 -- `branch` at the same left, so the measures are 2 left for `branch` and 2 left + 1 for `test`.
--- The loop's invariant: the first found of the list found before and the lists that have a repair of the conflict below the code, and
--- beside what was out before only those repairs are out.
-use mathlib.Core.Bool.{true}
-use mathlib.Core.Path.{_≡_, sym, subst}
+-- The loop's invariant: what was out before and the repairs tried so far are out, and no list has one of these.
+use mathlib.Core.Bool.{true, false}
+use mathlib.Core.Path.{_≡_, refl, sym, subst}
 use Prim.Native.Nat.{ℕ, _+_, _*_, _-_, _<_, _≤_}
 use native.Mathlib.Nat.{pos-of-ne-zero}
 use native.Mathlib.Omega.{arith}
 use lib.ListN.{length}
 use borrow.Author.Needs.{needs}
+use borrow.Author.Tests.{not-true, not-false}
 use borrow.Fn.Kinds.{In}
 use borrow.Fn.PlainCycle.{Measures, is, falls, and}
 use Rattle.table.specs.Sizes.{perFact}
 use Rattle.search.specs.Choices.{inChoice, listOf, Apart}
-use Rattle.search.specs.Searching.{Allowed, Conflicts, Chosen}
-use Rattle.search.specs.Trying.{FoundEarlier}
-use Rattle.search.proofs.BoundLaws.{shared-none, shared-end, shared-later}
-use Rattle.search.proofs.SearchLaws.{TriedBest, OutAt, out-first, out-next, loop-first, loop-next, loop-end, allowed-with, apart-with, later-stays, candidate-taken, gap-right, gap-missing, gap-other, conflict-without}
+use Rattle.search.specs.Searching.{Allowed, Complete, Lacks, OutFor, Reached}
+use Rattle.search.proofs.BoundLaws.{shared-none, shared-short}
+use Rattle.search.proofs.SearchLaws.{OutAt, out-first, out-next, out-all, allowed-with, apart-with, found-with, some-fewer, candidate-among, fails-lacks}
 use Rattle.search.proofs.search.branch.Reads as branch
 use Rattle.search.proofs.search.branch.Kinds as branch-kinds
 use Rattle.search.proofs.search.+branch+test.Lts-branch as branch-lts
 use Rattle.search.proofs.search.test.Reads as test
 use Rattle.search.proofs.search.test.Kinds as test-kinds
 use Rattle.search.proofs.search.+branch+test.Lts-test as test-lts
-use Rattle.search.proofs.bound.comes_later.Reads as comes-later-reads
-use Rattle.search.proofs.choices.found_earlier.Reads as found-earlier-reads
+use Rattle.search.proofs.bound.reach.Reads as reach-reads
 use Rattle.search.proofs.choices.next_in.Reads as next-in-reads
 use Rattle.search.proofs.choices.with_repair.Reads as with-repair-reads
-use Rattle.search.proofs.choices.without.Reads as without-reads
-use Rattle.search.proofs.conflict.conflict.Reads as conflict-reads
-use Rattle.search.proofs.gap.first_gap.Reads as first-gap-reads
-use Rattle.search.proofs.narrow.narrowest_gap.Reads as narrowest-gap-reads
+use Rattle.search.proofs.lack.is_complete.Reads as is-complete-reads
+use Rattle.search.proofs.lack.lacking.Reads as lacking-reads
 use Rattle.search.proofs.search.+branch+test.{statement}
 use Rattle.search.proofs.search.+branch+test.Tie.{close}
 
@@ -38,7 +34,7 @@ abbrev μ-branch : Measures 0 branch-kinds.ps ℕ
 μ-branch κs a = 2 * a .1 .1 .1 .1 .0
 
 abbrev μ-test : Measures 0 test-kinds.ps ℕ
-μ-test κs a = 2 * a .1 .1 .1 .0 + 1
+μ-test κs a = 2 * a .1 .1 .1 .1 .0 + 1
 
 abbrev branch-at : ℕ → In 0 branch-kinds.ps
 branch-at t = and 0 branch-kinds.ps (is 0 branch-kinds.ps μ-branch t) branch.Pre
@@ -55,6 +51,8 @@ test-below t = and 0 test-kinds.ps (falls 0 test-kinds.ps _<_ μ-test t) test.Pr
 -- What each of the two may use of its callees.
 abbrev B : ℕ → branch-lts.Claims
 B t = (
+  lacking-reads.Asked,
+  lacking-reads.Learnt,
   next-in-reads.Asked,
   next-in-reads.Learnt,
   with-repair-reads.Asked,
@@ -65,71 +63,100 @@ B t = (
 
 abbrev T : ℕ → test-lts.Claims
 T t = (
-  first-gap-reads.Asked,
-  first-gap-reads.Learnt,
-  found-earlier-reads.Asked,
-  found-earlier-reads.Learnt,
-  narrowest-gap-reads.Asked,
-  narrowest-gap-reads.Learnt,
-  conflict-reads.Asked,
-  conflict-reads.Learnt,
-  without-reads.Asked,
-  without-reads.Learnt,
-  comes-later-reads.Asked,
-  comes-later-reads.Learnt,
+  is-complete-reads.Asked,
+  is-complete-reads.Learnt,
+  reach-reads.Asked,
+  reach-reads.Learnt,
   branch-below t,
   branch.Post,
 )
 
 abbrev branch-Inv-loop : branch-lts.InvT-loop
-branch-Inv-loop col s q left best₀ out₀ code₀ best out code =
-    (code ≤ perFact) × (code < perFact → inChoice q code ≡ true) × OutAt out₀ q code out
-    × TriedBest col s out₀ q (length (listOf (col .fact) s) + left) code best₀ best
+branch-Inv-loop col s want left q out₀ code₀ out code =
+    (code ≤ perFact) × (code < perFact → inChoice q code ≡ true) × OutAt col s out₀ want q (length (listOf (col .fact) s) + left) code out
 
 abbrev branch-μ-loop : branch-lts.MeasureT-loop
-branch-μ-loop col s q left best₀ out₀ code₀ best out code = perFact - code
+branch-μ-loop col s want left q out₀ code₀ out code = perFact - code
+
+-- what the candidate lacks
+lacks-here : (t : ℕ) (c : branch-lts.After-lacking (B t) (branch-at t) branch.Post branch-Inv-loop branch-μ-loop)
+    → Lacks (c .before .args .col) (c .before .args .s) (c .before .args .out) (c .before .args .want) (c .lacking .result .choice)
+lacks-here t c =
+    let a = c .before .args in
+    fails-lacks (a .col) (a .s) (a .out) (a .want) (c .lacking .result .choice) (c .lacking .result .any) (c .before .pre .1 .1 .1 .1 .1 .0) (c .lacking .ensures)
+
+-- where the loop was entered from, and where the repair was tried
+abbrev lacked : (t : ℕ) → branch-lts.At-loop (B t) (branch-at t) branch.Post branch-Inv-loop branch-μ-loop
+    → branch-lts.After-lacking (B t) (branch-at t) branch.Post branch-Inv-loop branch-μ-loop
+lacked t c = c .before .before .before
+
+abbrev at-loop : (t : ℕ) → branch-lts.After-test (B t) (branch-at t) branch.Post branch-Inv-loop branch-μ-loop
+    → branch-lts.At-loop (B t) (branch-at t) branch.Post branch-Inv-loop branch-μ-loop
+at-loop t c = c .before .before .before
+
+branch-lacking-requires : (t : ℕ) → branch-lts.Need-lacking-requires (B t) (branch-at t) branch.Post branch-Inv-loop branch-μ-loop
+branch-lacking-requires t c κs = (c .pre .1 .0, c .pre .1 .1 .1 .0)
 
 branch-next-in-requires : (t : ℕ) → branch-lts.Need-next-in-requires (B t) (branch-at t) branch.Post branch-Inv-loop branch-μ-loop
 branch-next-in-requires t c κs = omega arith
 
 branch-loop-holds : (t : ℕ) → branch-lts.Need-loop-holds (B t) (branch-at t) branch.Post branch-Inv-loop branch-μ-loop
 branch-loop-holds t c =
-    let a = c .before .args in (
+    let at = c .before .before .before in
+    let a = at .args in
+    let q = c .before .before .lacking .result .choice in (
       c .next-in .ensures .within,
       c .next-in .ensures .present,
-      out-first (a .out) (a .q) (c .next-in .result),
-      loop-first (a .col) (a .s) (a .out) (a .q) (a .best) (length (listOf (a .col .fact) (a .s)) + a .left) (c .next-in .result) (c .next-in .ensures),
+      out-first (a .col) (a .s) (a .out) (a .want) q (length (listOf (a .col .fact) (a .s)) + a .left) (c .next-in .result) (at .pre .1 .1 .1 .1 .0) (c .next-in .ensures),
     )
 
 branch-with-repair-requires : (t : ℕ) → branch-lts.Need-with-repair-requires (B t) (branch-at t) branch.Post branch-Inv-loop branch-μ-loop
 branch-with-repair-requires t c κs = search needs
 
 branch-sub-test : (t : ℕ) → branch-lts.Need-sub-test (B t) (branch-at t) branch.Post branch-Inv-loop branch-μ-loop
-branch-sub-test t c =
-    let start = c .before .before .before .before in
-    start .pre .1 .1 .1 .1 .1
+branch-sub-test t c = lacked t (c .before .before) .before .pre .1 .1 .1 .1 .1 .1
 
 branch-test-requires : (t : ℕ) → branch-lts.Need-test-requires (B t) (branch-at t) branch.Post branch-Inv-loop branch-μ-loop
 branch-test-requires t c κs =
     let here = c .before .before in
-    let start = here .before .before in
+    let from = lacked t here in
+    let start = from .before in
     let a = start .args in
     let p = start .pre .1 in
+    let q = from .lacking .result .choice in
     let code = here .loop .code in
     let below : code < perFact = c .before .loop-test .taken in
     let offered = here .loop .inv .1 below in
-    let less : 2 * (a .left - 1) + 1 < t = omega (arith, start .pre .0, p .1 .1 .1 .1) in (
+    let lacks = lacks-here t from in
+    let less : 2 * (a .left - 1) + 1 < t = omega (arith, start .pre .0, p .1 .1 .1 .1 .1) in (
       less,
       (
         p .0,
         (
           subst (Allowed (a .col)) (sym (c .with-repair .ensures))
-              (allowed-with (a .col) (a .s) (a .q) code below (p .1 .0) (p .1 .1 .1 .0 .allowed) offered),
-          subst (λ w. Apart w (here .loop .out)) (sym (c .with-repair .ensures))
-              (apart-with (a .col) (a .s) (a .out) (a .q) (here .loop .out) code below (p .1 .1 .1 .0) offered (here .loop .inv .2) (p .1 .1 .0)),
+              (allowed-with (a .col) (a .s) q code below (p .1 .0) (lacks .allowed) offered),
+          (
+            p .1 .1 .0,
+            subst (λ w. Apart w (here .loop .out)) (sym (c .with-repair .ensures))
+                (apart-with (a .col) (a .s) (a .out) (a .want) q (length (listOf (a .col .fact) (a .s)) + a .left) lacks (here .loop .out) code below offered
+                (here .loop .inv .2)),
+          ),
         ),
       ),
     )
+
+branch-returns : (t : ℕ) → branch-lts.Need-returns (B t) (branch-at t) branch.Post branch-Inv-loop branch-μ-loop
+branch-returns t c =
+    let tested = c .before in
+    let here = at-loop t tested in
+    let from = lacked t here in
+    let a = from .before .args in
+    let k = length (listOf (a .col .fact) (a .s)) + a .left in
+    let code = here .loop .code in
+    let below : code < perFact = tested .before .before .loop-test .taken in
+    found-with (a .col) (a .s) (a .out) (a .want) (from .lacking .result .choice) k (lacks-here t from) (here .loop .out) code below
+    (here .loop .inv .1 below) (here .loop .inv .2) (a .left) (from .before .pre .1 .1 .1 .1 .1 .1) refl (tested .before .with-repair .result)
+    (tested .before .with-repair .ensures) (tested .test .result .any) (tested .test .result .choice) (c .if1 .taken) (tested .test .ensures)
 
 branch-with-repair-requires-2 : (t : ℕ) → branch-lts.Need-with-repair-requires-2 (B t) (branch-at t) branch.Post branch-Inv-loop branch-μ-loop
 branch-with-repair-requires-2 t c κs = search needs
@@ -146,131 +173,106 @@ branch-loop-less t c = omega (arith, c .next-in2 .ensures .after)
 branch-loop-again : (t : ℕ) → branch-lts.Need-loop-again (B t) (branch-at t) branch.Post branch-Inv-loop branch-μ-loop
 branch-loop-again t c =
     let gone = c .before in
-    let tested = gone .before in
-    let inside = tested .before .before in
-    let here = inside .before in
-    let start = here .before .before in
-    let a = start .args in
-    let p = start .pre .1 .1 .1 .1 in
+    let tested = gone .before .before in
+    let here = at-loop t tested in
+    let from = lacked t here in
+    let a = from .before .args in
+    let q = from .lacking .result .choice in
+    let k = length (listOf (a .col .fact) (a .s)) + a .left in
     let code = here .loop .code in
-    let below : code < perFact = inside .loop-test .taken in
-    let offered = here .loop .inv .1 below in
-    let after : code < c .next-in2 .result = omega (arith, c .next-in2 .ensures .after) in (
+    let below : code < perFact = tested .before .before .loop-test .taken in (
       c .next-in2 .ensures .within,
       c .next-in2 .ensures .present,
-      subst (OutAt (a .out) (a .q) (c .next-in2 .result)) (sym (gone .with-repair2 .ensures))
-          (out-next (a .out) (a .q) (here .loop .out) code (c .next-in2 .result) below after offered (here .loop .inv .2)),
-      loop-next (a .col) (a .s) (a .out) (a .q) (a .best) (a .left) code (c .next-in2 .result) (here .loop .out) (here .loop .best) (tested .test .result)
-          (p .0) (p .1) below (c .next-in2 .ensures) offered (here .loop .inv .2) (here .loop .inv .3)
-          (subst
-          (λ w. Chosen (a .col) w (here .loop .out) (length (listOf (a .col .fact) w) + (a .left - 1)) (here .loop .best) (tested .test .result))
-          (tested .before .with-repair .ensures) (tested .test .ensures)),
+      subst (OutAt (a .col) (a .s) (a .out) (a .want) q k (c .next-in2 .result)) (sym (gone .with-repair2 .ensures))
+          (out-next (a .col) (a .s) (a .out) (a .want) q k (lacks-here t from) (here .loop .out) code below (here .loop .inv .1 below) (here .loop .inv .2)
+          (a .left) (from .before .pre .1 .1 .1 .1 .1 .1) refl (tested .before .with-repair .result) (tested .before .with-repair .ensures)
+          (tested .test .result .any) (tested .test .result .choice) (gone .before .if1 .left) (tested .test .ensures) (c .next-in2 .result) (c .next-in2 .ensures)),
     )
 
-branch-returns : (t : ℕ) → branch-lts.Need-returns (B t) (branch-at t) branch.Post branch-Inv-loop branch-μ-loop
-branch-returns t c =
+branch-returns-2 : (t : ℕ) → branch-lts.Need-returns-2 (B t) (branch-at t) branch.Post branch-Inv-loop branch-μ-loop
+branch-returns-2 t c =
     let here = c .before in
-    let start = here .before .before in
-    let a = start .args in
-    loop-end (a .col) (a .s) (a .out) (a .q) (a .best) (length (listOf (a .col .fact) (a .s)) + a .left) (here .loop .code) (here .loop .best)
-    (start .pre .1 .1 .1 .1 .0) (c .loop-test .left) (here .loop .inv .3)
+    let from = lacked t here in
+    let a = from .before .args in
+    out-all (a .col) (a .s) (a .out) (a .want) (from .lacking .result .choice) (length (listOf (a .col .fact) (a .s)) + a .left) (lacks-here t from)
+    (here .loop .out) (here .loop .code) (c .loop-test .left) (here .loop .inv .2)
 
-test-first-gap-requires : (t : ℕ) → test-lts.Need-first-gap-requires (T t) (test-at t) test.Post
-test-first-gap-requires t c κs = c .pre .1 .0
-
-test-found-earlier-requires : (t : ℕ) → test-lts.Need-found-earlier-requires (T t) (test-at t) test.Post
-test-found-earlier-requires t c κs = search needs
+test-is-complete-requires : (t : ℕ) → test-lts.Need-is-complete-requires (T t) (test-at t) test.Post
+test-is-complete-requires t c κs = c .pre .1 .0
 
 test-returns : (t : ℕ) → test-lts.Need-returns (T t) (test-at t) test.Post
 test-returns t c =
-    let a = c .before .before .before .before .args in
-    later-stays (a .col) (a .s) (a .out) (a .left) (a .best)
-    (shared-later (a .col) (a .s) (a .out) (a .s) (a .s) 0 (a .left) (a .best) (shared-none (a .col) (a .s) (a .out))
-    (subst (FoundEarlier (a .best) (a .s)) (c .if2 .taken) (c .before .found-earlier .ensures)))
+    let at = c .before .before in
+    let a = at .args in
+    candidate-among (a .col) (a .s) (a .out) (a .want) (a .left) (at .pre .1 .1 .0) (at .pre .1 .1 .1 .1)
+    (subst (Complete (a .col) (a .s) (a .want)) (c .if1 .taken) (c .before .is-complete .ensures))
+
+-- the candidate fails
+fails : (t : ℕ) (c : test-lts.Else1 (T t) (test-at t) test.Post)
+    → Complete (c .before .before .args .col) (c .before .before .args .s) (c .before .before .args .want) false
+fails t c =
+    let a = c .before .before .args in
+    subst (Complete (a .col) (a .s) (a .want)) (c .if1 .left) (c .before .is-complete .ensures)
 
 test-returns-2 : (t : ℕ) → test-lts.Need-returns-2 (T t) (test-at t) test.Post
 test-returns-2 t c =
-    let right = c .before .before in
-    let gap = right .before .first-gap in
-    let start = right .before .before in
-    let a = start .args in
-    candidate-taken (a .col) (a .s) (a .out) (a .left) (a .best) (start .pre .1 .1 .0) (start .pre .1 .1 .1)
-    (gap-right (a .col) (a .s) (gap .result) (gap .ensures) (right .if1 .taken))
-    (subst (FoundEarlier (a .best) (a .s)) (c .if2 .left) (c .before .found-earlier .ensures))
+    let a = c .before .before .before .args in
+    shared-short (a .col) (a .s) (a .out) (a .want) (a .s) 0 (a .left) (omega (arith, c .if2 .taken))
+    (shared-none (a .col) (a .s) (a .out) (a .want)) (fails t (c .before))
+
+test-reach-requires : (t : ℕ) → test-lts.Need-reach-requires (T t) (test-at t) test.Post
+test-reach-requires t c κs =
+    let p = c .before .before .before .pre .1 in
+    (p .0, (p .1 .1 .0, p .1 .1 .1))
+
+-- where repairs were left to try
+abbrev some-left : (t : ℕ) → test-lts.After-struct-known (T t) (test-at t) test.Post → test-lts.Else2 (T t) (test-at t) test.Post
+some-left t c = c .before .before
+
+abbrev start : (t : ℕ) → test-lts.Else2 (T t) (test-at t) test.Post → test-lts.Start (T t) (test-at t) test.Post
+start t c = c .before .before .before
 
 test-returns-3 : (t : ℕ) → test-lts.Need-returns-3 (T t) (test-at t) test.Post
 test-returns-3 t c =
-    let wrong = c .before in
-    let gap = wrong .before .first-gap in
-    let a = wrong .before .before .args in
-    later-stays (a .col) (a .s) (a .out) (a .left) (a .best)
-    (shared-end (a .col) (a .s) (a .out) (a .s) (a .s) 0 (a .left) (gap .result) (a .best) (omega (arith, c .if3 .taken))
-    (shared-none (a .col) (a .s) (a .out)) (gap-missing (a .col) (a .s) (gap .result) (gap .ensures) (wrong .if1 .left)))
+    let reached = c .before .before .reach in
+    let a = start t (some-left t (c .before)) .args in
+    subst (λ b. Reached (a .col) (a .s) (a .out) (a .want) (length (listOf (a .col .fact) (a .s)) + a .left) b (reached .result .choice))
+    (not-true (reached .result .any) (c .if3 .taken)) (reached .ensures)
 
-test-narrowest-gap-requires : (t : ℕ) → test-lts.Need-narrowest-gap-requires (T t) (test-at t) test.Post
-test-narrowest-gap-requires t c κs =
-    let wrong = c .before in
-    wrong .before .before .pre .1 .0
-
-test-conflict-requires : (t : ℕ) → test-lts.Need-conflict-requires (T t) (test-at t) test.Post
-test-conflict-requires t c κs =
-    let wrong = c .before .before in
-    let gap = wrong .before .first-gap in
-    let start = wrong .before .before in
-    let a = start .args in (
-      start .pre .1 .0,
-      gap-other (a .col) (a .s) (gap .result) (c .narrowest-gap .result)
-          (gap-missing (a .col) (a .s) (gap .result) (gap .ensures) (wrong .if1 .left)) (c .narrowest-gap .ensures),
-    )
-
-test-without-requires : (t : ℕ) → test-lts.Need-without-requires (T t) (test-at t) test.Post
-test-without-requires t c κs = search needs
-
--- where a repair was left to try
-abbrev some-left : (t : ℕ) → test-lts.After-without (T t) (test-at t) test.Post → test-lts.Else3 (T t) (test-at t) test.Post
-some-left t c = c .before .before .before
-
-abbrev start : (t : ℕ) → test-lts.Else3 (T t) (test-at t) test.Post → test-lts.Start (T t) (test-at t) test.Post
-start t c = c .before .before .before
-
--- the candidate's conflict, without what is out
-conflict-here : (t : ℕ) (c : test-lts.After-without (T t) (test-at t) test.Post)
-    → Conflicts (start t (some-left t c) .args .col) (start t (some-left t c) .args .s) (start t (some-left t c) .args .out) (c .without .result)
-conflict-here t c =
-    let a = start t (some-left t c) .args in
-    let q = c .before .conflict in
-    subst (Conflicts (a .col) (a .s) (a .out)) (sym (c .without .ensures))
-    (conflict-without (a .col) (a .s) (a .out) (q .result) (q .ensures .conflicts))
-
-test-comes-later-requires : (t : ℕ) → test-lts.Need-comes-later-requires (T t) (test-at t) test.Post
-test-comes-later-requires t c κs = (start t (some-left t c) .pre .1 .0, conflict-here t c)
-
-test-returns-4 : (t : ℕ) → test-lts.Need-returns-4 (T t) (test-at t) test.Post
-test-returns-4 t c =
-    let bounded = c .before in
-    let a = start t (some-left t (bounded .before)) .args in
-    later-stays (a .col) (a .s) (a .out) (a .left) (a .best) (bounded .comes-later .ensures (c .if4 .taken))
+-- what is out where the search goes on
+out-here : (t : ℕ) (c : test-lts.Else3 (T t) (test-at t) test.Post)
+    → OutFor (start t (some-left t (c .before)) .args .col) (start t (some-left t (c .before)) .args .s) (start t (some-left t (c .before)) .args .out)
+    (start t (some-left t (c .before)) .args .want)
+    (length (listOf (start t (some-left t (c .before)) .args .col .fact) (start t (some-left t (c .before)) .args .s)) + start t (some-left t (c .before)) .args .left)
+    (c .before .before .reach .result .choice)
+out-here t c =
+    let reached = c .before .before .reach in
+    let a = start t (some-left t (c .before)) .args in
+    subst (λ b. Reached (a .col) (a .s) (a .out) (a .want) (length (listOf (a .col .fact) (a .s)) + a .left) b (reached .result .choice))
+    (not-false (reached .result .any) (c .if3 .left)) (reached .ensures)
 
 test-branch-requires : (t : ℕ) → test-lts.Need-branch-requires (T t) (test-at t) test.Post
 test-branch-requires t c κs =
-    let conflicting = c .before .before in
-    let some = some-left t conflicting in
+    let some = some-left t (c .before) in
     let at = start t some in
     let p = at .pre .1 in
     let less : 2 * at .args .left < t = omega (arith, at .pre .0) in
-    (less, (p .0, (p .1 .0, (p .1 .1, (conflict-here t conflicting, pos-of-ne-zero (some .if3 .left))))))
+    (less, (p .0, (p .1 .0, (p .1 .1 .0, (out-here t c .apart, (fails t (some .before), pos-of-ne-zero (some .if2 .left)))))))
 
-test-returns-5 : (t : ℕ) → test-lts.Need-returns-5 (T t) (test-at t) test.Post
-test-returns-5 t c = c .branch .ensures
+test-returns-4 : (t : ℕ) → test-lts.Need-returns-4 (T t) (test-at t) test.Post
+test-returns-4 t c =
+    let a = start t (some-left t (c .before .before)) .args in
+    some-fewer (a .col) (a .s) (a .out) (a .want) (c .before .before .before .reach .result .choice) (length (listOf (a .col .fact) (a .s)) + a .left)
+    (out-here t (c .before)) (c .branch .result .any) (c .branch .result .choice) (c .branch .ensures)
 
 pub +branch+test-spec : {M : Type 1} → statement M
 +branch+test-spec =
     close μ-branch μ-test
     (λ t.
-    branch-lts.spec (B t) (branch-at t) branch.Post branch-Inv-loop branch-μ-loop (branch-next-in-requires t) (branch-loop-holds t)
-    (branch-with-repair-requires t) (branch-sub-test t) (branch-test-requires t) (branch-with-repair-requires-2 t) (branch-add-next-in t)
-    (branch-next-in-requires-2 t) (branch-loop-less t) (branch-loop-again t) (branch-returns t))
+    branch-lts.spec (B t) (branch-at t) branch.Post branch-Inv-loop branch-μ-loop (branch-lacking-requires t) (branch-next-in-requires t)
+    (branch-loop-holds t) (branch-with-repair-requires t) (branch-sub-test t) (branch-test-requires t) (branch-returns t)
+    (branch-with-repair-requires-2 t) (branch-add-next-in t) (branch-next-in-requires-2 t) (branch-loop-less t) (branch-loop-again t)
+    (branch-returns-2 t))
     (λ t.
-    test-lts.spec (T t) (test-at t) test.Post (test-first-gap-requires t) (test-found-earlier-requires t) (test-returns t) (test-returns-2 t)
-    (test-returns-3 t) (test-narrowest-gap-requires t) (test-conflict-requires t) (test-without-requires t) (test-comes-later-requires t)
-    (test-returns-4 t) (test-branch-requires t) (test-returns-5 t))
+    test-lts.spec (T t) (test-at t) test.Post (test-is-complete-requires t) (test-returns t) (test-returns-2 t) (test-reach-requires t)
+    (test-returns-3 t) (test-branch-requires t) (test-returns-4 t))
