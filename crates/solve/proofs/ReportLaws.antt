@@ -1,7 +1,7 @@
 -- Laws of the report: what one row more adds to the sum and to the room, and what the sum tells.
 -- Assumes nothing.
 use mathlib.Core.Bool.{Bool, true, false, cond, _||_}
-use mathlib.Core.List.{List, _++_}
+use mathlib.Core.List.{List, [], _∷_, _++_}
 use mathlib.Core.Path.{_≡_, refl, sym, ap, _∙_, subst}
 use Prim.Native.Nat.{ℕ, _+_, _-_, _*_, _<_, _≤_}
 use native.Mathlib.Omega.{arith}
@@ -52,6 +52,11 @@ module _ (row : List ℕ) where
       pick true b = refl
       pick false true = refl
       pick false false = refl
+
+  -- What the first number announces is what the row does.
+  pub announced-repairs : (first count : ℕ) → first ≡ getD row 0 0 → count ≡ cond (leb first maxRow) first 0 → count ≡ repairsIn row
+  unfolding repairsIn
+  announced-repairs first count e d = d ∙ ap (λ (x : ℕ). cond (leb x maxRow) x 0) e
 
   pub repairs-low : repairsIn row ≤ maxRow
   unfolding repairsIn
@@ -270,3 +275,13 @@ module _ (s : List ℕ) (n limit : ℕ) (room : List ℕ) (y : Sum) (e : y ≡ s
       (told (joinVerdicts (verdictAt s) n limit) room)
   answered-told h k l after w =
       given-whole (joinLists (verdictAt s) n) room after (y .total) (omega (arith, sum-total)) sum-total w ∙ sym (told-given h k)
+
+  -- Nothing is to be written, and nothing was.
+  pub none-told : y .hopeless ≡ false → isBeyond ≡ false → y .total ≡ 0
+      → _≡_ {A = Outcome} (record { reply = record { number = accepted; place = 0; length = y .total }; room = room })
+      (told (joinVerdicts (verdictAt s) n limit) room)
+  none-told h k e = answered-told h k (omega (arith, e)) room (unwritten (joinLists (verdictAt s) n) (omega (arith, e, sum-total)))
+    where
+      unwritten : (l : List ℕ) → length l ≡ 0 → room ≡ l ++ drop (length l) room
+      unwritten [] e = refl
+      unwritten (x ∷ l) e = absurd (omega arith)

@@ -13,10 +13,10 @@ ghost use mathlib.Core.Bool.{cond};
 ghost use mathlib.Core.List.{_++_};
 ghost use mathlib.Core.Path.{_≡_};
 ghost use Prim.Native.Nat.{_+_, _<_, _≤_};
-ghost use lib.Dec.{eqb};
+ghost use lib.Dec.{eqb, leb};
 ghost use lib.ListN.{length, getD, drop};
 ghost use Rattle.table.specs.Join.{joinLists, joinVerdicts};
-ghost use Rattle.table.specs.Sizes.{maxFacts};
+ghost use Rattle.table.specs.Sizes.{maxFacts, maxRow, allRows};
 ghost use Rattle.table.specs.Tasks.{WellFormed};
 ghost use Rattle.search.specs.Rows.{rowOver};
 ghost use Rattle.solve.specs.Reports.{sumOf};
@@ -47,12 +47,27 @@ pub fn number_at(table: &[u16], f: usize, i: usize) -> usize
     if at < places { table[at] as usize } else { 0 }
 }
 
+// How many repairs a row with this first number announces.
+fn announced(first: usize) -> usize
+    ensures { λ r. ⌜ r ≡ cond (leb first maxRow) first 0 ⌝ }
+{
+    if first <= ROW { first } else { 0 }
+}
+
 // How many repairs the row announces.
 pub fn repairs_at(table: &[u16], f: usize) -> usize
     ensures { λ r. ⌜ r ≡ repairsIn (rowAt (now (table .entry)) f) ⌝ }
 {
-    let first = number_at(table, f, 0);
-    if first <= ROW { first } else { 0 }
+    announced(number_at(table, f, 0))
+}
+
+// The first number of a fact's row, in a table that has all rows.
+fn first_at(table: &[u16], f: usize) -> usize
+    requires { ⌜ f < maxFacts ⌝ }
+    requires { ⌜ allRows ≤ length (now table) ⌝ }
+    ensures { λ r. ⌜ r ≡ getD (rowAt (now (table .entry)) f) 0 0 ⌝ }
+{
+    table[ROW_PLACES * f] as usize
 }
 
 // The lowest fact up to f whose row says 7; f + 1 where there is none. Below f it was `beyond`, or f if none.
@@ -76,10 +91,10 @@ fn sum_rows(table: &[u16], facts: usize) -> Sum
     let mut beyond = 0;
     let mut total = 0;
     for f in 0..facts {
-        let first = number_at(table, f, 0);
+        let first = first_at(table, f);
         hopeless = hopeless | (first == row::HOPELESS);
         beyond = beyond_with(beyond, f, first);
-        total = total + repairs_at(table, f);
+        total = total + announced(first);
     }
     Sum {
         hopeless,
@@ -100,7 +115,7 @@ fn write_lists(table: &[u16], facts: usize, room: &mut [u16])
 {
     let mut at = 0;
     for f in 0..facts {
-        let count = repairs_at(table, f);
+        let count = announced(first_at(table, f));
         copying::copy(table, ROW_PLACES * f + 1, count, room, at);
         at = at + count;
     }
@@ -127,10 +142,14 @@ pub fn report(t: Task, table: &[u16], room: &mut [u16]) -> Reply
     if room.len() < total {
         return refusal(refusals::ROOM_TOO_SHORT);
     }
-    write_lists(table, facts, room);
-    Reply {
+    let given = Reply {
         number: refusals::ACCEPTED,
         place: 0,
         length: total,
+    };
+    if total == 0 {
+        return given;
     }
+    write_lists(table, facts, room);
+    given
 }

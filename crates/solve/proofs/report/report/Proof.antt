@@ -3,7 +3,7 @@ use borrow.Author.Needs.{needs}
 use native.Mathlib.Omega.{arith}
 use Rattle.table.specs.Refusals.{noListWorks, overTheLimit, roomTooShort}
 use Rattle.table.proofs.OutcomeLaws.{refused-told}
-use Rattle.solve.proofs.ReportLaws.{sum-total, told-hopeless, told-over, told-short, answered-told}
+use Rattle.solve.proofs.ReportLaws.{sum-total, told-hopeless, told-over, told-short, none-told, answered-told}
 use Rattle.solve.proofs.report.report.Statement.{statement}
 use Rattle.solve.proofs.report.report.Tie as tie
 
@@ -52,9 +52,19 @@ returns-3 c =
     refused-told roomTooShort (c .refusal3 .result) (a .room .now) _ (c .refusal3 .ensures)
     (told-short (a .table .now) (a .t .table .facts) (a .t .table .limit) (a .room .now) (d .sum-rows .result) (d .sum-rows .ensures) (within .before .before .if1 .left) (within .if2 .left) (c .before .if3 .taken))
 
+returns-4 : tie.Need-returns-4
+returns-4 c =
+    let e = c .before in
+    let within = e .before in
+    let d = summed-3 e in
+    let a = start d .args in
+    none-told (a .table .now) (a .t .table .facts) (a .t .table .limit) (a .room .now) (d .sum-rows .result) (d .sum-rows .ensures)
+    (within .before .before .if1 .left) (within .if2 .left) (c .if4 .taken)
+
 write-lists-requires : tie.Need-write-lists-requires
 write-lists-requires c κs =
-    let d = summed-3 (c .before) in
+    let e = c .before .before in
+    let d = summed-3 e in
     let a = start d in (
       a .pre .0 .facts-high,
       (
@@ -63,7 +73,7 @@ write-lists-requires c κs =
           arith,
           sum-total (a .args .table .now) (a .args .t .table .facts) (a .args .t .table .limit) (a .args .room .now)
               (d .sum-rows .result) (d .sum-rows .ensures),
-          c .before .if3 .left,
+          e .if3 .left,
         ),
       ),
     )
@@ -71,9 +81,9 @@ write-lists-requires c κs =
 same-length : tie.Need-same-length
 same-length c = search needs
 
-returns-4 : tie.Need-returns-4
-returns-4 c =
-    let e = c .before .before .before .before in
+returns-5 : tie.Need-returns-5
+returns-5 c =
+    let e = c .before .before .before .before .before in
     let within = e .before in
     let d = summed-3 e in
     let a = start d .args in
@@ -92,6 +102,7 @@ report-spec =
     returns-2
     refusal-requires-3
     returns-3
+    returns-4
     write-lists-requires
     same-length
-    returns-4)
+    returns-5)

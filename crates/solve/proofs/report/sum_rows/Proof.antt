@@ -1,9 +1,10 @@
 -- `solve::report::sum_rows` meets its contract: before turn f the rows below f are summed. Assumes nothing.
+use mathlib.Core.Path.{_≡_}
 use Prim.Native.Nat.{_-_}
 use borrow.Author.Needs.{needs}
 use native.Mathlib.Omega.{arith}
-use Rattle.rows.specs.Tables.{rowAt}
-use Rattle.solve.proofs.ReportLaws.{repairs-low, Summed, summed-none, summed-more, summed-end}
+use Rattle.rows.specs.Tables.{rowAt, repairsIn}
+use Rattle.solve.proofs.ReportLaws.{announced-repairs, repairs-low, Summed, summed-none, summed-more, summed-end}
 use Rattle.solve.proofs.report.sum_rows.Statement.{statement}
 use Rattle.solve.proofs.report.sum_rows.Tie as tie
 
@@ -17,25 +18,34 @@ abbrev μ-loop : tie.MeasureT-loop
 abbrev start : tie.At-loop Inv-loop μ-loop → tie.Start Inv-loop μ-loop
 start c = c .before .before
 
-abbrev turn : tie.After-number-at Inv-loop μ-loop → tie.At-loop Inv-loop μ-loop
+abbrev turn : tie.After-first-at Inv-loop μ-loop → tie.At-loop Inv-loop μ-loop
 turn c = c .before .before
 
 loop-holds : tie.Need-loop-holds Inv-loop μ-loop
 loop-holds c = summed-none (c .before .args .table .now) (c .before .args .facts)
 
-number-at-requires : tie.Need-number-at-requires Inv-loop μ-loop
-number-at-requires c κs = search needs
+first-at-requires : tie.Need-first-at-requires Inv-loop μ-loop
+first-at-requires c κs =
+    let a = start (c .before) in
+    (omega (arith, a .pre .0), a .pre .1 .places)
 
 beyond-with-requires : tie.Need-beyond-with-requires Inv-loop μ-loop
 beyond-with-requires c κs = omega (arith, start (turn c) .pre .0)
 
-repairs-at-requires : tie.Need-repairs-at-requires Inv-loop μ-loop
-repairs-at-requires c κs = search needs
+announced-requires : tie.Need-announced-requires Inv-loop μ-loop
+announced-requires c κs = search needs
+
+-- what the row announces
+repairs-here : (c : tie.After-announced Inv-loop μ-loop)
+    → c .announced .result ≡ repairsIn (rowAt (start (turn (c .before .before)) .args .table .now) (turn (c .before .before) .loop .f))
+repairs-here c =
+    let first = c .before .before .first-at in
+    announced-repairs _ (first .result) (c .announced .result) (first .ensures) (c .announced .ensures)
 
 add-total : tie.Need-add-total Inv-loop μ-loop
 add-total c =
     let d = turn (c .before .before) in
-    omega (arith, c .repairs-at .ensures, repairs-low (rowAt (start d .args .table .now) (d .loop .f)), d .loop .inv .bound)
+    omega (arith, repairs-here c, repairs-low (rowAt (start d .args .table .now) (d .loop .f)), d .loop .inv .bound)
 
 add-f : tie.Need-add-f Inv-loop μ-loop
 add-f c = omega arith
@@ -49,8 +59,8 @@ loop-again c =
     let d = turn first in
     let a = start d in
     summed-more (a .args .table .now) (a .args .facts) (a .pre .0) (a .pre .1) (d .loop .hopeless) (d .loop .beyond) (d .loop .total)
-    (d .loop .f) (first .number-at .result) (c .before .beyond-with .result) (c .repairs-at .result) (omega arith)
-    (first .number-at .ensures) (c .before .beyond-with .ensures) (c .repairs-at .ensures) (d .loop .inv)
+    (d .loop .f) (first .first-at .result) (c .before .beyond-with .result) (c .announced .result) (omega arith)
+    (first .first-at .ensures) (c .before .beyond-with .ensures) (repairs-here c) (d .loop .inv)
 
 returns : tie.Need-returns Inv-loop μ-loop
 returns c =
@@ -61,4 +71,4 @@ returns c =
 pub sum-rows-spec : {M : Type 1} → statement M
 sum-rows-spec =
     tie.close
-    (tie.spec Inv-loop μ-loop loop-holds number-at-requires beyond-with-requires repairs-at-requires add-total add-f loop-less loop-again returns)
+    (tie.spec Inv-loop μ-loop loop-holds first-at-requires beyond-with-requires announced-requires add-total add-f loop-less loop-again returns)

@@ -1,10 +1,11 @@
 -- `solve::report::write_lists` meets its contract: before turn f the lists of the rows below f are in the room. Assumes nothing.
+use mathlib.Core.Path.{_≡_}
 use Prim.Native.Nat.{_+_, _-_, _≤_}
 use borrow.Author.Needs.{needs}
 use native.Mathlib.Omega.{arith}
 use lib.ListN.{length}
 use Rattle.rows.specs.Tables.{rowAt, repairsIn}
-use Rattle.solve.proofs.ReportLaws.{repairs-low, Listed, listed-none, listed-fits, listed-more, listed-end}
+use Rattle.solve.proofs.ReportLaws.{announced-repairs, repairs-low, Listed, listed-none, listed-fits, listed-more, listed-end}
 use Rattle.solve.proofs.report.write_lists.Statement.{statement}
 use Rattle.solve.proofs.report.write_lists.Tie as tie
 
@@ -18,8 +19,8 @@ abbrev μ-loop : tie.MeasureT-loop
 abbrev start : tie.At-loop Inv-loop μ-loop → tie.Start Inv-loop μ-loop
 start c = c .before .before .before
 
-abbrev turn : tie.After-repairs-at Inv-loop μ-loop → tie.In-loop Inv-loop μ-loop
-turn c = c .before
+abbrev turn : tie.After-announced Inv-loop μ-loop → tie.In-loop Inv-loop μ-loop
+turn c = c .before .before
 
 loop-holds : tie.Need-loop-holds Inv-loop μ-loop
 loop-holds c = listed-none (c .before .before .args .table .now) (c .before .before .args .facts) (c .before .before .args .room .now)
@@ -32,8 +33,20 @@ next-fits c =
     listed-fits (a .args .table .now) (a .args .facts) (a .args .room .now) (a .pre .0) (a .pre .1 .0) (a .pre .1 .1) (c .before .loop .room)
     (c .before .loop .at) (c .before .loop .f) (omega arith) (c .before .loop .inv)
 
-repairs-at-requires : tie.Need-repairs-at-requires Inv-loop μ-loop
-repairs-at-requires c κs = search needs
+first-at-requires : tie.Need-first-at-requires Inv-loop μ-loop
+first-at-requires c κs =
+    let a = start (c .before) in
+    (omega (arith, a .pre .0), a .pre .1 .0 .places)
+
+announced-requires : tie.Need-announced-requires Inv-loop μ-loop
+announced-requires c κs = search needs
+
+-- what the row announces
+repairs-here : (c : tie.After-announced Inv-loop μ-loop)
+    → c .announced .result ≡ repairsIn (rowAt (start (turn c .before) .args .table .now) (turn c .before .loop .f))
+repairs-here c =
+    let first = c .before .first-at in
+    announced-repairs _ (first .result) (c .announced .result) (first .ensures) (c .announced .ensures)
 
 mul-copy : tie.Need-mul-copy Inv-loop μ-loop
 mul-copy c = omega arith
@@ -45,14 +58,14 @@ copy-requires : tie.Need-copy-requires Inv-loop μ-loop
 copy-requires c κs =
     let d = turn (c .before) in
     let a = start (d .before) in (
-      omega (arith, c .before .repairs-at .ensures, repairs-low (rowAt (a .args .table .now) (d .before .loop .f)), a .pre .1 .0 .places),
-      omega (arith, c .before .repairs-at .ensures, next-fits d),
+      omega (arith, repairs-here (c .before), repairs-low (rowAt (a .args .table .now) (d .before .loop .f)), a .pre .1 .0 .places),
+      omega (arith, repairs-here (c .before), next-fits d),
     )
 
 add-at : tie.Need-add-at Inv-loop μ-loop
 add-at c =
     let d = c .before .before .before .before in
-    omega (arith, d .repairs-at .ensures, next-fits (turn d), turn d .before .loop .inv .places)
+    omega (arith, repairs-here d, next-fits (turn d), turn d .before .loop .inv .places)
 
 add-f : tie.Need-add-f Inv-loop μ-loop
 add-f c = omega arith
@@ -66,8 +79,8 @@ loop-again c =
     let d = turn count .before in
     let a = start d in
     listed-more (a .args .table .now) (a .args .facts) (a .args .room .now) (a .pre .0) (a .pre .1 .0) (a .pre .1 .1) (d .loop .room)
-    (c .before .before .copy .last .1 .1 .1 .0) (d .loop .at) (d .loop .f) (count .repairs-at .result)
-    (omega arith) (count .repairs-at .ensures) (c .before .before .copy .ensures) (d .loop .inv)
+    (c .before .before .copy .last .1 .1 .1 .0) (d .loop .at) (d .loop .f) (count .announced .result)
+    (omega arith) (repairs-here count) (c .before .before .copy .ensures) (d .loop .inv)
 
 same-length : tie.Need-same-length Inv-loop μ-loop
 same-length c = c .before .loop .inv .places
@@ -81,4 +94,4 @@ returns c =
 pub write-lists-spec : {M : Type 1} → statement M
 write-lists-spec =
     tie.close
-    (tie.spec Inv-loop μ-loop loop-holds repairs-at-requires mul-copy add-copy copy-requires add-at add-f loop-less loop-again same-length returns)
+    (tie.spec Inv-loop μ-loop loop-holds first-at-requires announced-requires mul-copy add-copy copy-requires add-at add-f loop-less loop-again same-length returns)
