@@ -196,7 +196,7 @@ applied-valid t l u d w =
       adds = λ i h. sym (d .adds (r .step i) f);
       deletes = λ i h. sym (d .deletes (r .step i) f);
     })
-    (sameCourse-refl f r) (valid-right c r (w .valid) f)))
+    (sameCourse-refl f r) (valid-right c r (w .valid 0 (omega arith)) f)))
 
 -- ---- the three ways out of `apply`
 

@@ -2,7 +2,7 @@
 -- lists that keep it right. Assumes nothing.
 use mathlib.Core.Bool.{false}
 use mathlib.Core.List.{List}
-use mathlib.Core.Path.{_≡_, sym, ap, _∙_}
+use mathlib.Core.Path.{_≡_, refl, sym, ap, _∙_}
 use Prim.Native.Nat.{ℕ, _<_, _≤_}
 use native.Mathlib.Omega.{arith}
 use lib.Dec.{ltb}
@@ -12,10 +12,10 @@ use Rattle.facts.specs.Sets.{has}
 use Rattle.facts.proofs.Laws.{same-sets}
 use Rattle.table.proofs.AnswerLaws.{AlikeAt, alike-sym, keeps-alike}
 use Rattle.table.proofs.Formation.{byKind-all}
-use Rattle.table.proofs.RunLaws.{SameCourseAt, sameCourse-sym}
+use Rattle.table.proofs.RunLaws.{SameCoursesAt, sameCourses-sym}
 use Rattle.table.specs.Repairs.{dropDelete, addEffect, dropNeed}
 use Rattle.table.specs.Sizes.{kinds}
-use Rattle.table.specs.Tasks.{cellsOf, courseOf, maskOf, KeepsFor, Shaped, WellFormed}
+use Rattle.table.specs.Tasks.{cellsOf, courseOf, coursesOf, maskOf, KeepsFor, Shaped, WellFormed}
 use Rattle.table.specs.declared.Task.{Task}
 use Rattle.change.proofs.KindLaws.{setsOf, mask-sets, shaped-long}
 
@@ -117,19 +117,22 @@ module _ (g : ℕ) (t u : Task) (s : SameFact g t u) where
     deletes = λ a. sym (s .cell dropDelete a (omega arith));
   }
 
-  pub same-course : SameCourseAt g (courseOf (t .run)) (courseOf (u .run))
+  pub same-courses : SameCoursesAt g (coursesOf t) (coursesOf u)
   unfolding courseOf
-  same-course = record {
-    start = sym (s .start);
-    goal = sym (s .goal);
-    count = sym (s .sizes .count);
-    steps = λ i h. ap (λ (l : List ℕ). getD l i 0) (sym (s .sizes .steps));
+  same-courses = record {
+    many = refl;
+    each = λ i h. record {
+      start = sym (s .start);
+      goal = sym (s .goal);
+      count = sym (s .sizes .count);
+      steps = λ i h. ap (λ (l : List ℕ). getD l i 0) (sym (s .sizes .steps));
+    };
   }
 
   pub keeps-same : (l : List ℕ) → KeepsFor t g l → KeepsFor u g l
-  keeps-same = keeps-alike g (cellsOf (t .table)) (cellsOf (u .table)) same-cells (courseOf (t .run)) (courseOf (u .run)) same-course
+  keeps-same = keeps-alike g (cellsOf (t .table)) (cellsOf (u .table)) same-cells (coursesOf t) (coursesOf u) same-courses
 
   pub keeps-same-back : (l : List ℕ) → KeepsFor u g l → KeepsFor t g l
   keeps-same-back =
       keeps-alike g (cellsOf (u .table)) (cellsOf (t .table)) (alike-sym g (cellsOf (t .table)) (cellsOf (u .table)) same-cells)
-      (courseOf (u .run)) (courseOf (t .run)) (sameCourse-sym g (courseOf (t .run)) (courseOf (u .run)) same-course)
+      (coursesOf u) (coursesOf t) (sameCourses-sym g (coursesOf t) (coursesOf u) same-courses)

@@ -26,7 +26,7 @@ use Rattle.solve.specs.Solving.{told, Solves}
 use Rattle.table.specs.Outcomes.{Outcome, refused, given}
 use Rattle.table.proofs.Formation.{well-formed}
 use Rattle.table.proofs.Worked.{worked}
-use Rattle.table.specs.Deciding.{isRight, isShaped}
+use Rattle.table.specs.Deciding.{isRight, isAllRight, isShaped}
 use Rattle.table.specs.Answer.{Verdict, found, over, hopeless}
 use Rattle.table.specs.Bench.{listingTask, limited, strayTask, goalsAtStart, goalOutOfReach, addsAndDeletes, deletesTheGoal, needsLastFact, pairSteps, pairs}
 use Rattle.table.specs.Counting.{sumBelow, countBelow, firstWhere, everyBelow, someBelow}
@@ -131,7 +131,7 @@ later-row = (worked .row-7 .1, worked .row-7 .2)
 
 -- All lists under one, so that what is computed is named once.
 computed : AllHold sheet × AllHold refusalFiles × AllHold figures
-unfolding readFile readFrom faultsAt placeOf firstOf isKind fileOrder firstPlace positionOf isCellKind isFactKind bodyLength bodyAt misplaced sizesWrong outside disordered tableAfter runAfter seenAfter checked openReport totalOpen firstOpen lowestOpen openAt isOpen sumBelow countBelow firstWhere pairSteps stepsOf certified certifies mends isRightWith isRight isShaped ofFact formed sizesFormed actionFormed maskFormed stepFormed everyBelow cellsOf courseOf stateAt permitted permits chosen isIn has within joined removed only setCell gather someBelow isHopeless isOver foundList cellInside names joinRows readAgainst
+unfolding readFile readFrom faultsAt placeOf firstOf isKind fileOrder firstPlace positionOf isCellKind isFactKind bodyLength bodyAt misplaced sizesWrong outside disordered tableAfter runAfter seenAfter checked openReport totalOpen firstOpen lowestOpen openAt isOpen sumBelow countBelow firstWhere pairSteps stepsOf certified certifies mends isRightWith isRight isAllRight isShaped ofFact formed sizesFormed actionFormed maskFormed stepFormed everyBelow cellsOf courseOf stateAt permitted permits chosen isIn has within joined removed only setCell gather someBelow isHopeless isOver foundList cellInside names joinRows readAgainst
 computed = (
   read-row _ _ _ refl refl and
       read-row _ _ _ refl refl and

@@ -55,7 +55,7 @@ use Rattle.table.specs.Published.{WorksPublished}
 use Rattle.table.specs.Repairs.{repaired}
 use Rattle.table.specs.Sizes.{maxFacts}
 use Rattle.table.specs.Strips.{Valid}
-use Rattle.table.specs.Tasks.{cellsOf, courseOf, WorksFor, formed, WellFormed, withLimit}
+use Rattle.table.specs.Tasks.{cellsOf, courseOf, coursesOf, WorksFor, formed, WellFormed, withLimit}
 use Rattle.table.specs.declared.Reply.{Reply}
 use Rattle.table.specs.declared.Task.{Task}
 use Rattle.taskfile.proofs.Called.{record-asks-nothing, body-asks-nothing, ReadGives, read-gives, read-asks-nothing}
@@ -194,9 +194,9 @@ pub record Demand2 : Type 0 where
   pub nothing-open : (t : Task) → WellFormed t → (r : Checked) → CheckGives t r → (r .total ≡ 0) ↔ Valid (cellsOf (t .table)) (courseOf (t .run))
   -- 01: "001 permits kind 1 for every fact. Ours leaves out only repairs that do nothing, so least lists are the same", and so is what is
   -- over the limit or hopeless
-  pub published-answer : (t : Task) (l : List ℕ) → First (WorksFor t) l ↔ First (WorksPublished (cellsOf (t .table)) (courseOf (t .run))) l
+  pub published-answer : (t : Task) (l : List ℕ) → First (WorksFor t) l ↔ First (WorksPublished (cellsOf (t .table)) (coursesOf t)) l
   pub published-verdict : (t : Task) (limit : ℕ) (v : Verdict)
-      → Within (WorksFor t) limit v ↔ Within (WorksPublished (cellsOf (t .table)) (courseOf (t .run))) limit v
+      → Within (WorksFor t) limit v ↔ Within (WorksPublished (cellsOf (t .table)) (coursesOf t)) limit v
 
 -- ---- demand 3
 
@@ -288,7 +288,7 @@ given-list t w room o g h =
       shown = x .3;
       within = x .2;
       permitted = x .1 .member .permitted;
-      valid = x .1 .member .valid;
+      valid = x .1 .member .valid 0 (omega arith);
       shortest = least-length (x .1);
       first = least-first (x .1);
       cures = λ r a.
@@ -317,8 +317,8 @@ demand-two = record {
   nothing-open = λ t w r g.
       let e = ap (λ (x : Checked). x .total) (check-gives t r g) in
       (λ h. checked-zero-valid t w (sym e ∙ h), λ v. e ∙ valid-checked-zero t w v);
-  published-answer = λ t. published-first (cellsOf (t .table)) (courseOf (t .run));
-  published-verdict = λ t. published-within (cellsOf (t .table)) (courseOf (t .run));
+  published-answer = λ t. published-first (cellsOf (t .table)) (coursesOf t);
+  published-verdict = λ t. published-within (cellsOf (t .table)) (coursesOf t);
 }
 
 -- Edits made by calls are a story of the session's.

@@ -4,39 +4,41 @@ use mathlib.Core.Bool.{Bool, false, not, _&&_, cond}
 use mathlib.Core.List.{List, [], _∷_}
 use Prim.Native.Nat.{ℕ, _+_, _-_, _*_}
 use lib.Dec.{eqb}
-use Rattle.table.specs.Counting.{everyBelow}
-use Rattle.table.specs.Deciding.{isRight, isShaped}
+use Rattle.table.specs.Counting.{everyBelow, someBelow}
+use Rattle.table.specs.Deciding.{isAllRight, isShaped}
 use Rattle.table.specs.Answer.{Verdict, found, over, hopeless}
 use Rattle.table.specs.Order.{isIn}
 use Rattle.table.specs.Repairs.{permitted, repaired, factOf}
 use Rattle.table.specs.Sizes.{perFact}
-use Rattle.table.specs.Strips.{Cells, Course}
-use Rattle.table.specs.Tasks.{cellsOf, courseOf, formed}
+use Rattle.table.specs.Strips.{Cells, Courses}
+use Rattle.table.specs.Tasks.{cellsOf, coursesOf, formed}
 use Rattle.table.specs.declared.Task.{Task}
 
 -- The fact is right in the table with a list applied.
-unfoldable pub isRightWith : Cells → Course → ℕ → List ℕ → Bool
-isRightWith c r f l = isRight (repaired c (isIn l)) r f
+unfoldable pub isRightWith : Cells → Courses → ℕ → List ℕ → Bool
+isRightWith c rs f l = isAllRight (repaired c (isIn l)) rs f
 
 -- The repair n alone makes the fact right.
-unfoldable pub mends : Cells → Course → ℕ → ℕ → Bool
-mends c r f n = permitted c n && isRightWith c r f (n ∷ [])
+unfoldable pub mends : Cells → Courses → ℕ → ℕ → Bool
+mends c rs f n = permitted c n && isRightWith c rs f (n ∷ [])
 
 -- Found, without a repair: the fact is right as it stands. Found, with one: it mends the fact, which is not right as it stands, and no
--- smaller repair of the fact does. Hopeless: no steps, and a goal absent at the start.
-unfoldable pub certifies : Cells → Course → ℕ → Verdict → Bool
-certifies c r f (found []) = isRightWith c r f []
-certifies c r f (found (x ∷ [])) =
-    mends c r f x && eqb (factOf x) f && not (isRightWith c r f []) &&
-    everyBelow (λ i. not (mends c r f (perFact * f + i))) (x - perFact * f)
-certifies c r f (found (x ∷ y ∷ l)) = false
-certifies c r f over = false
-certifies c r f hopeless = eqb (r .count) 0 && r .goal f && not (r .start f)
+-- smaller repair of the fact does. Hopeless: a run without steps, and a goal absent at
+-- its start.
+unfoldable pub certifies : Cells → Courses → ℕ → Verdict → Bool
+certifies c rs f (found []) = isRightWith c rs f []
+certifies c rs f (found (x ∷ [])) =
+    mends c rs f x && eqb (factOf x) f && not (isRightWith c rs f []) &&
+    everyBelow (λ i. not (mends c rs f (perFact * f + i))) (x - perFact * f)
+certifies c rs f (found (x ∷ y ∷ l)) = false
+certifies c rs f over = false
+certifies c rs f hopeless =
+    someBelow (λ i. eqb (rs .course i .count) 0 && rs .course i .goal f && not (rs .course i .start f)) (rs .many)
 
 -- Every fact's verdict is certified, and the task is well formed with arrays of their declared lengths.
 unfoldable pub certified : Task → (ℕ → Verdict) → Bool
 certified t v =
-    isShaped t && formed t && everyBelow (λ f. certifies (cellsOf (t .table)) (courseOf (t .run)) f (v f)) (t .table .facts)
+    isShaped t && formed t && everyBelow (λ f. certifies (cellsOf (t .table)) (coursesOf t) f (v f)) (t .table .facts)
 
 -- The repairs of fact f in a list.
 unfoldable pub ofFact : List ℕ → ℕ → List ℕ

@@ -15,12 +15,12 @@ use Rattle.facts.proofs.Laws.{has-empty, has-joined, has-shared, has-removed, h
 use Rattle.search.specs.Rows.{rowOf, RightRow}
 use Rattle.table.specs.Answer.{found}
 use Rattle.table.specs.Counting.{everyBelow}
-use Rattle.table.specs.Deciding.{isRight}
+use Rattle.table.specs.Deciding.{isRight, isAllRight}
 use Rattle.table.specs.Strips.{stateAt}
-use Rattle.table.specs.Tasks.{cellsOf, courseOf}
+use Rattle.table.specs.Tasks.{cellsOf, courseOf, coursesOf}
 use Rattle.table.specs.declared.Task.{Task}
 use Rattle.table.proofs.CountingLaws.{everyBelow-none, everyBelow-next}
-use Rattle.table.proofs.DecidingLaws.{is-right}
+use Rattle.table.proofs.DecidingLaws.{is-all-right}
 use Rattle.table.proofs.JoinLaws.{keeps-right}
 use Rattle.table.proofs.RunLaws.{stateAt-first, stateAt-next}
 use Rattle.rows.specs.Tables.{emptyRow, RowPut, RowsPut, Emptied}
@@ -83,7 +83,7 @@ module _ (t : Task) where
 
   pub passed-end : (state wrong i absent next : ℕ) → t .run .count ≤ i → absent ≡ removed (t .run .goal) state → next ≡ joined wrong absent
       → Passed state wrong i → WrongFacts t next
-  unfolding cellsOf courseOf isRight
+  unfolding cellsOf courseOf isRight isAllRight everyBelow
   passed-end state wrong i absent next h a n p f =
       let last : i ≡ t .run .count = omega (arith, p .low) in
       let q = subst (λ (j : ℕ). Passed state wrong j) last p in
@@ -96,8 +96,8 @@ module _ (t : Task) where
   unfolding rowOf
   right-empty wrong e f h =
       let right =
-      is-right (cellsOf (t .table)) (courseOf (t .run)) f (not-false (isRight (cellsOf (t .table)) (courseOf (t .run)) f) (sym (e f) ∙ h)) in
-      record { verdict = found []; within = (keeps-right (cellsOf (t .table)) (courseOf (t .run)) f right, omega arith); shown = refl }
+      is-all-right (cellsOf (t .table)) (coursesOf t) f (not-false (isAllRight (cellsOf (t .table)) (coursesOf t) f) (sym (e f) ∙ h)) in
+      record { verdict = found []; within = (keeps-right (cellsOf (t .table)) (coursesOf t) f right, omega arith); shown = refl }
 
   -- ---- the rows of the wrong facts, one after another
 

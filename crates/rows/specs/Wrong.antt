@@ -5,14 +5,14 @@ use mathlib.Core.List.{List}
 use mathlib.Core.Path.{_≡_}
 use Prim.Native.Nat.{ℕ, _<_}
 use Rattle.facts.specs.Sets.{has}
-use Rattle.table.specs.Deciding.{isRight}
-use Rattle.table.specs.Tasks.{cellsOf, courseOf}
+use Rattle.table.specs.Deciding.{isAllRight}
+use Rattle.table.specs.Tasks.{cellsOf, coursesOf}
 use Rattle.table.specs.declared.Task.{Task}
 use Rattle.rows.specs.Tables.{RowPut}
 
 -- The mask has exactly the wrong facts.
 abbrev pub WrongFacts : Task → ℕ → Type 0
-WrongFacts t wrong = (f : ℕ) → has wrong f ≡ not (isRight (cellsOf (t .table)) (courseOf (t .run)) f)
+WrongFacts t wrong = (f : ℕ) → has wrong f ≡ not (isAllRight (cellsOf (t .table)) (coursesOf t) f)
 
 -- The row of one of the facts that are left was put, and the others are left.
 pub record Taken (R : ℕ → List ℕ → Type 0) (left : ℕ) (s : List ℕ) (next : ℕ) (after : List ℕ) : Type 0 where

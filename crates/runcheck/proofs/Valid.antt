@@ -7,7 +7,7 @@ use native.Mathlib.Nat.{le-refl, le-of-lt}
 use native.Mathlib.Omega.{arith}
 use borrow.Author.Tests.{lt-ltb, le-ltb}
 use Rattle.table.specs.Join.{Inside}
-use Rattle.table.specs.Strips.{Cells, Course, Valid, stateAt}
+use Rattle.table.specs.Strips.{Cells, Course, one, Valid, stateAt}
 use Rattle.table.specs.Tasks.{WellFormed, cellsOf, courseOf}
 use Rattle.table.specs.declared.Task.{Task}
 use Rattle.table.proofs.FlagLaws.{by-order}
@@ -35,11 +35,11 @@ module _ (c : Cells) (r : Course) (states : States) where
       countBelow-zero (isOpen c r states i) (c .facts) (sumBelow-zero (openAt c r states) (r .count + 1) e i (omega arith)) f l
 
   -- where no need and no goal is at F or above, no fact is open at all
-  pub total-open : Inside c r → totalOpen c r states ≡ 0 → (i f : ℕ) → i ≤ r .count → isOpen c r states i f ≡ false
+  pub total-open : Inside c (one r) → totalOpen c r states ≡ 0 → (i f : ℕ) → i ≤ r .count → isOpen c r states i f ≡ false
   unfolding isOpen
   total-open inside e i f h =
       by-order f (c .facts) (total-none e i f h) (λ l.
-      by-order i (r .count) (λ k. rw (lt-ltb i (r .count) k, inside .needs (r .step i) f l)) (λ k. rw (le-ltb i (r .count) k, inside .goal f l)))
+      by-order i (r .count) (λ k. rw (lt-ltb i (r .count) k, inside .needs (r .step i) f l)) (λ k. rw (le-ltb i (r .count) k, inside .goal 0 (omega arith) f l)))
 
   pub open-total : ((i f : ℕ) → i ≤ r .count → isOpen c r states i f ≡ false) → totalOpen c r states ≡ 0
   unfolding totalOpen openAt
@@ -70,7 +70,7 @@ module _ (c : Cells) (r : Course) where
   pub valid-total : Valid c r → totalOpen c r states ≡ 0
   valid-total v = open-total c r states (valid-none v)
 
-  pub total-valid : Inside c r → totalOpen c r states ≡ 0 → Valid c r
+  pub total-valid : Inside c (one r) → totalOpen c r states ≡ 0 → Valid c r
   total-valid inside e =
       let none = total-open c r states inside e in
       record {

@@ -10,13 +10,13 @@ use lib.ListN.{length}
 use Rattle.table.specs.Order.{isIn}
 use Rattle.table.specs.Repairs.{repaired}
 use Rattle.table.specs.Sizes.{perFact}
-use Rattle.table.specs.Strips.{Right}
+use Rattle.table.specs.Strips.{AllRight}
 use Rattle.table.proofs.FlagLaws.{is-false, or-cases, or-left, or-right}
 use Rattle.table.proofs.RepairLaws.{right-more}
 use Rattle.search.specs.declared.Column.{Column}
 use Rattle.search.specs.declared.Choice.{Choice}
 use Rattle.search.specs.Choices.{inChoice, numbersIn, listOf, codeNumber, Contains, Misses, Apart}
-use Rattle.search.specs.Columns.{cellsIn, courseIn, KeepsIn}
+use Rattle.search.specs.Columns.{cellsIn, coursesIn, KeepsIn}
 use Rattle.search.specs.Searching.{Complete, Sought, Lacks, Among, OutFor, Reached}
 use Rattle.search.specs.Trying.{withRepair, bothOf, withoutThose, CodesBelow, NextIn}
 use Rattle.search.proofs.ChoiceLaws.{listOf-only, listOf-members, listOf-has, in-both, in-without-cases, with-cases, with-length, contains-with}
@@ -100,9 +100,9 @@ module _ (col : Column) (s out want : Choice) where
         in-passed : inChoice passed (m .0) ≡ true
         in-passed = listOf-only (col .fact) passed (m .0) (within-passed passed n left enough all l a (codeNumber (col .fact) (m .0)) (m .3))
 
-        right : Right (repaired (cellsIn col) (numbersIn (col .fact) passed)) (courseIn col) (col .fact)
+        right : AllRight (repaired (cellsIn col) (numbersIn (col .fact) passed)) (coursesIn col) (col .fact)
         right =
-            right-more (cellsIn col) (courseIn col) (col .fact) (isIn l) (numbersIn (col .fact) passed)
+            right-more (cellsIn col) (coursesIn col) (col .fact) (isIn l) (numbersIn (col .fact) passed)
             (λ k own h. sym (listOf-members (col .fact) passed k) ∙ within-passed passed n left enough all l a k h) (a .sought .keeps .right)
 
     -- Nothing beside what was passed: the rest is out.

@@ -299,7 +299,7 @@ module _ (col : Column) (s : Choice) (j i : ℕ) (formed : ColumnFormed col) (mi
           ⊎ ((code : ℕ) → code < perFact → (inChoice q code && R (codeNumber (col .fact) code)) ≡ false)
           → (code : ℕ) × (code < perFact) × (inChoice q code ≡ true) × (R (codeNumber (col .fact) code) ≡ true)
       pick (inl w) = (w .0, w .1, and-left _ _ (w .2), and-right (inChoice q (w .0)) _ (w .2))
-      pick (inr none) = absurd (not-right R none (keeps .right) (missing .needed))
+      pick (inr none) = absurd (not-right R none (keeps .right 0 (omega arith)) (missing .needed))
 
   -- The conflict's repairs are those that 01 names.
   offered-named : (code : ℕ) → code < perFact → inChoice q code ≡ true → Named col s j code

@@ -14,14 +14,14 @@ use Rattle.table.specs.Answer.{First}
 use Rattle.table.specs.Order.{isIn, _≼_}
 use Rattle.table.specs.Repairs.{permitted, factOf}
 use Rattle.table.specs.Sizes.{maxRow, perFact}
-use Rattle.table.specs.Strips.{Right}
+use Rattle.table.specs.Strips.{AllRight}
 use Rattle.table.proofs.FlagLaws.{is-false, both, and-both, same-flag}
 use Rattle.table.proofs.OrderLaws.{isIn-none, ≼-trans, ≼-length, first-difference-first}
 use Rattle.table.proofs.RepairLaws.{right-more}
 use Rattle.search.specs.declared.Column.{Column}
 use Rattle.search.specs.declared.Choice.{Choice}
 use Rattle.search.specs.Choices.{nothing, inChoice, numbersIn, listOf, codeNumber, Contains, Apart}
-use Rattle.search.specs.Columns.{cellsIn, courseIn, KeepsIn}
+use Rattle.search.specs.Columns.{cellsIn, coursesIn, KeepsIn}
 use Rattle.search.specs.Searching.{cellsWith, Allowed, Among, SomeOf, Agree, Earlier, Short, Shortest}
 use Rattle.search.specs.Trying.{sharedBy, withoutThose, CodesBelow, NextIn}
 use Rattle.search.specs.Views.{Fullest}
@@ -42,13 +42,13 @@ module _ (col : Column) where
   nothing-out s e = subst (λ w. Apart w w) (sym e) (nothing-apart nothing)
 
   -- The fact is right as it stands: the empty list is the shortest.
-  pub short-none : (s : Choice) → s ≡ nothing → Right (cellsWith col s) (courseIn col) (col .fact) → Short col true s
+  pub short-none : (s : Choice) → s ≡ nothing → AllRight (cellsWith col s) (coursesIn col) (col .fact) → Short col true s
   short-none s e right =
       let none : length (listOf (col .fact) s) ≡ 0 = ap (λ w. length (listOf (col .fact) w)) e ∙ ap length (nothing-list (col .fact)) in
       (right-keeps col s (nothing-allowed s e) right, omega arith, λ l keeps. omega arith)
 
 -- The fact is wrong as it stands: every list that keeps it right has some repair.
-module _ (col : Column) (s : Choice) (wrong : Right (cellsWith col s) (courseIn col) (col .fact) → ⊥) where
+module _ (col : Column) (s : Choice) (wrong : AllRight (cellsWith col s) (coursesIn col) (col .fact) → ⊥) where
   has-some : (l : List ℕ) → KeepsIn col l → (code : ℕ) × (code < perFact) × (isIn l (codeNumber (col .fact) code) ≡ true)
   has-some l keeps = pick (find-code (λ c. isIn l (codeNumber (col .fact) c)) perFact)
     where
@@ -56,7 +56,7 @@ module _ (col : Column) (s : Choice) (wrong : Right (cellsWith col s) (courseIn 
           → (code : ℕ) × (code < perFact) × (isIn l (codeNumber (col .fact) code) ≡ true)
       pick (inl m) = m
       pick (inr none) =
-          absurd (wrong (right-more (cellsIn col) (courseIn col) (col .fact) (isIn l) (numbersIn (col .fact) s)
+          absurd (wrong (right-more (cellsIn col) (coursesIn col) (col .fact) (isIn l) (numbersIn (col .fact) s)
           (λ n own h.
           let number : codeNumber (col .fact) (n % perFact) ≡ n = omega (arith, own) in
           absurd (false≢true (sym (none (n % perFact) (omega arith)) ∙ ap (isIn l) number ∙ h))) (keeps .right)))
@@ -67,7 +67,7 @@ module _ (col : Column) (s : Choice) (wrong : Right (cellsWith col s) (courseIn 
 
 -- Every permitted repair is wanted: the lists of at most k repairs are all looked for.
 module _ (col : Column) (s all : Choice) (k : ℕ) (start : s ≡ nothing) (full : Fullest col all)
-    (wrong : Right (cellsWith col s) (courseIn col) (col .fact) → ⊥) where
+    (wrong : AllRight (cellsWith col s) (coursesIn col) (col .fact) → ⊥) where
   among-all : (l : List ℕ) → KeepsIn col l → length l ≤ k → Among col s s all (length (listOf (col .fact) s) + k) l
   among-all l keeps short = record {
     sought = record {

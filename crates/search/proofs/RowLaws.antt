@@ -146,7 +146,7 @@ module _ (t : Task) (f : ℕ) (row : List ℕ) (col : Column) (own : col .fact �
         within = (
           (
             listOf (col .fact) full,
-            in-keeps t col shows here (listOf (col .fact) full) (fullest-keeps col full most (gap-right col full j gap past)),
+            in-keeps t col shows here (listOf (col .fact) full) (fullest-keeps col full most (λ i h. gap-right col full j gap past)),
           ),
           λ m keeps. short m (keeps-in t col shows here m keeps),
         );
@@ -160,6 +160,6 @@ module _ (t : Task) (f : ℕ) (row : List ℕ) (col : Column) (own : col .fact �
       for-fact record {
         verdict = hopeless;
         within = λ m keeps.
-            missing-wrong col full j (gap-missing col full j gap h) (fullest-right col full most m (keeps-in t col shows here m keeps));
+            missing-wrong col full j (gap-missing col full j gap h) (fullest-right col full most m (keeps-in t col shows here m keeps) 0 (omega arith));
         shown = e;
       }

@@ -12,13 +12,13 @@ use Rattle.table.specs.Answer.{Permitted}
 use Rattle.table.specs.Order.{isIn, _≼_}
 use Rattle.table.specs.Repairs.{permitted, repaired}
 use Rattle.table.specs.Sizes.{perFact}
-use Rattle.table.specs.Strips.{Right, stateAt}
+use Rattle.table.specs.Strips.{Right, AllRight, stateAt}
 use Rattle.table.proofs.FlagLaws.{is-false}
 use Rattle.table.proofs.OrderLaws.{compared, ≼-length, subset-first}
 use Rattle.search.specs.declared.Column.{Column}
 use Rattle.search.specs.declared.Choice.{Choice}
 use Rattle.search.specs.Choices.{inChoice, listOf, codeNumber, Contains, Apart, Shares}
-use Rattle.search.specs.Columns.{cellsIn, courseIn, KeepsIn}
+use Rattle.search.specs.Columns.{cellsIn, courseIn, coursesIn, KeepsIn}
 use Rattle.search.specs.Searching.{cellsWith, NeededAt, Missing, Allowed, Conflicts, Lacks, Complete, Lacking, Among, SomeOf, OutFor}
 use Rattle.search.specs.Gaps.{Gap}
 use Rattle.search.specs.Trying.{withRepair, withoutThose, NextIn, Sharing}
@@ -40,11 +40,11 @@ module _ (col : Column) (s : Choice) where
   }
 
   -- A candidate with which the fact is right keeps it right, as a list.
-  pub right-keeps : Allowed col s → Right (cellsWith col s) (courseIn col) (col .fact) → KeepsIn col (listOf (col .fact) s)
+  pub right-keeps : Allowed col s → AllRight (cellsWith col s) (coursesIn col) (col .fact) → KeepsIn col (listOf (col .fact) s)
   right-keeps allowed right = record {
     permitted = allowed-permitted allowed;
     own = λ n h. let d = listOf-from (col .fact) s n h in omega (arith, d .below, d .number);
-    right = subst (λ c. Right c (courseIn col) (col .fact)) (sym list-applied) right;
+    right = subst (λ c. AllRight c (coursesIn col) (col .fact)) (sym list-applied) right;
   }
 
   -- The candidate comes before, or is, every list that contains it.
@@ -131,15 +131,15 @@ wanted-lacks col s out want allowed unmet = record {
 -- Nothing is wanting but what is wanted.
 pub lacking-right : (col : Column) (s out want : Choice) (j : ℕ) (met : Bool) → Allowed col want → Gap col s j → col .count < j → Sharing s want met
     → Lacking col s out want (not met) (withoutThose want out)
-lacking-right col s out want j true allowed gap past shares = (gap-right col s j gap past, shares)
+lacking-right col s out want j true allowed gap past shares = (λ i h. gap-right col s j gap past, shares)
 lacking-right col s out want j false allowed gap past unmet = wanted-lacks col s out want allowed unmet
 
 pub complete-gap : (col : Column) (s want : Choice) (j : ℕ) → Gap col s j → Shares s want → Complete col s want (ltb (col .count) j)
 complete-gap col s want j gap shares = pick (ltb (col .count) j) refl
   where
     pick : (t : Bool) → ltb (col .count) j ≡ t → Complete col s want t
-    pick true t = (gap-right col s j gap (ltb-true (col .count) j t), shares)
-    pick false t = λ right _. missing-wrong col s j (gap-missing col s j gap (ltb-false (col .count) j t)) right
+    pick true t = (λ i h. gap-right col s j gap (ltb-true (col .count) j t), shares)
+    pick false t = λ right _. missing-wrong col s j (gap-missing col s j gap (ltb-false (col .count) j t)) (right 0 (omega arith))
 
 -- A candidate that fails lacks something.
 pub fails-lacks : (col : Column) (s out want q : Choice) (any : Bool) → Complete col s want false → Lacking col s out want any q → Lacks col s out want q

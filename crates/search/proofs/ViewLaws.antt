@@ -14,17 +14,17 @@ use Rattle.facts.proofs.Laws.{has-empty, has-with, has-shared, has-removed, has
 use Rattle.table.specs.Repairs.{byKind, dropDelete, addEffect, factOf, kindOf, actionOf, permits, permitted}
 use Rattle.table.specs.Sizes.{maxActions, perFact}
 use Rattle.table.specs.Order.{isIn}
-use Rattle.table.specs.Strips.{Cells, Right}
-use Rattle.table.specs.Tasks.{WellFormed, cellsOf, courseOf, KeepsFor}
+use Rattle.table.specs.Strips.{Cells, AllRight}
+use Rattle.table.specs.Tasks.{WellFormed, cellsOf, courseOf, coursesOf, KeepsFor}
 use Rattle.table.specs.declared.Task.{Task}
 use Rattle.table.proofs.AnswerLaws.{AlikeAt, alike-sym, keeps-alike}
 use Rattle.table.proofs.OrderLaws.{compared}
 use Rattle.table.proofs.RepairLaws.{right-more}
-use Rattle.table.proofs.RunLaws.{SameCourseAt, sameCourse-sym}
+use Rattle.table.proofs.RunLaws.{SameCoursesAt, sameCourses-sym}
 use Rattle.table.proofs.RepairNumbers.{permitted-permits}
 use Rattle.search.proofs.SearchLaws.{right-keeps}
 use Rattle.search.specs.Choices.{inChoice, numbersIn, listOf, codeNumber, codeKind, codeAction}
-use Rattle.search.specs.Columns.{cellsIn, courseIn, KeepsIn, ColumnFormed}
+use Rattle.search.specs.Columns.{cellsIn, courseIn, coursesIn, KeepsIn, ColumnFormed}
 use Rattle.search.specs.Searching.{cellsWith}
 use Rattle.search.specs.Views.{Gathers, Shows, Fullest}
 use Rattle.search.specs.declared.Column.{Column}
@@ -124,10 +124,10 @@ fullest-is col formed s d a n code h =
     least l = omega arith
 
 -- Working is monotone: a list that keeps the fact right has no repair that the fullest choice lacks, so the fullest does too.
-pub fullest-right : (col : Column) (s : Choice) → Fullest col s → (l : List ℕ) → KeepsIn col l → Right (cellsWith col s) (courseIn col) (col .fact)
+pub fullest-right : (col : Column) (s : Choice) → Fullest col s → (l : List ℕ) → KeepsIn col l → AllRight (cellsWith col s) (coursesIn col) (col .fact)
 unfolding numbersIn
 fullest-right col s full l keeps =
-    right-more (cellsIn col) (courseIn col) (col .fact) (isIn l) (numbersIn (col .fact) s) more (keeps .right)
+    right-more (cellsIn col) (coursesIn col) (col .fact) (isIn l) (numbersIn (col .fact) s) more (keeps .right)
   where
     more : (n : ℕ) → factOf n ≡ col .fact → isIn l n ≡ true → numbersIn (col .fact) s n ≡ true
     more n own h =
@@ -135,7 +135,7 @@ fullest-right col s full l keeps =
         rw (eq-eqb (factOf n) (col .fact) own, full (n % perFact) (omega arith), here) (keeps .permitted .each n h)
 
 -- And then its list keeps the fact right.
-pub fullest-keeps : (col : Column) (s : Choice) → Fullest col s → Right (cellsWith col s) (courseIn col) (col .fact)
+pub fullest-keeps : (col : Column) (s : Choice) → Fullest col s → AllRight (cellsWith col s) (coursesIn col) (col .fact)
     → KeepsIn col (listOf (col .fact) s)
 fullest-keeps col s full right = right-keeps col s (λ code h chosen. sym (full code h) ∙ chosen) right
 
@@ -160,20 +160,23 @@ module _ (t : Task) (col : Column) (shows : Shows t col) (inside : col .fact < t
     deletes = λ a. sym (shows .deletes a);
   }
 
-  same-course : SameCourseAt (col .fact) (courseOf (t .run)) (courseIn col)
+  same-courses : SameCoursesAt (col .fact) (coursesOf t) (coursesIn col)
   unfolding courseOf courseIn
-  same-course = record {
-    start = sym (shows .start);
-    goal = sym (shows .goal);
-    count = sym (shows .count);
-    steps = λ i h. rw (shows .steps);
+  same-courses = record {
+    many = refl;
+    each = λ i h. record {
+      start = sym (shows .start);
+      goal = sym (shows .goal);
+      count = sym (shows .count);
+      steps = λ i h. rw (shows .steps);
+    };
   }
 
   -- So a list keeps the fact right in the task exactly if it does so in the column.
   pub keeps-in : (l : List ℕ) → KeepsFor t (col .fact) l → KeepsIn col l
-  keeps-in = keeps-alike (col .fact) (cellsOf (t .table)) (cellsIn col) same-cells (courseOf (t .run)) (courseIn col) same-course
+  keeps-in = keeps-alike (col .fact) (cellsOf (t .table)) (cellsIn col) same-cells (coursesOf t) (coursesIn col) same-courses
 
   pub in-keeps : (l : List ℕ) → KeepsIn col l → KeepsFor t (col .fact) l
   in-keeps =
-      keeps-alike (col .fact) (cellsIn col) (cellsOf (t .table)) (alike-sym (col .fact) _ _ same-cells) (courseIn col) (courseOf (t .run))
-      (sameCourse-sym (col .fact) _ _ same-course)
+      keeps-alike (col .fact) (cellsIn col) (cellsOf (t .table)) (alike-sym (col .fact) _ _ same-cells) (coursesIn col) (coursesOf t)
+      (sameCourses-sym (col .fact) _ _ same-courses)

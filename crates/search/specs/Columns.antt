@@ -5,7 +5,7 @@ use Prim.Native.Nat.{ℕ, suc, _<_, _≤_}
 use lib.ListN.{length, getD}
 use Rattle.facts.specs.Sets.{has}
 use Rattle.table.specs.Sizes.{maxActions, maxSteps}
-use Rattle.table.specs.Strips.{Cells, Course}
+use Rattle.table.specs.Strips.{Cells, Course, Courses, one}
 use Rattle.table.specs.Answer.{Keeps}
 use Rattle.search.specs.declared.Column.{Column}
 
@@ -26,9 +26,13 @@ courseIn col = record {
   step = λ i. getD (col .steps) i 0;
 }
 
+-- The runs of a column: the one that it has.
+abbrev pub coursesIn : Column → Courses
+coursesIn col = one (courseIn col)
+
 -- The lists that keep the column's fact right.
 abbrev pub KeepsIn : Column → List ℕ → Type 0
-KeepsIn col = Keeps (cellsIn col) (courseIn col) (col .fact)
+KeepsIn col = Keeps (cellsIn col) (coursesIn col) (col .fact)
 
 -- What the search needs of a column: sizes in range, and steps that are actions.
 pub record ColumnFormed (col : Column) : Type 0 where

@@ -8,11 +8,11 @@ use Rattle.table.specs.Answer.{First}
 use Rattle.table.specs.Order.{isIn}
 use Rattle.table.specs.Repairs.{permitted, repaired}
 use Rattle.table.specs.Sizes.{maxRow, perFact}
-use Rattle.table.specs.Strips.{Cells, Right, stateAt}
+use Rattle.table.specs.Strips.{Cells, AllRight, stateAt}
 use Rattle.search.specs.declared.Column.{Column}
 use Rattle.search.specs.declared.Choice.{Choice}
 use Rattle.search.specs.Choices.{inChoice, numbersIn, listOf, codeNumber, Contains, Misses, Meets, Apart, Shares}
-use Rattle.search.specs.Columns.{cellsIn, courseIn, KeepsIn}
+use Rattle.search.specs.Columns.{cellsIn, courseIn, coursesIn, KeepsIn}
 
 -- The column's table with a candidate applied.
 abbrev pub cellsWith : Column → Choice → Cells
@@ -56,8 +56,8 @@ pub record Lacks (col : Column) (s out want q : Choice) : Type 0 where
 
 -- Does the candidate lack nothing? It keeps the fact right, and has one of the repairs that are wanted.
 abbrev pub Complete : Column → Choice → Choice → Bool → Type 0
-Complete col s want true = Right (cellsWith col s) (courseIn col) (col .fact) × Shares s want
-Complete col s want false = Right (cellsWith col s) (courseIn col) (col .fact) → Shares s want → ⊥
+Complete col s want true = AllRight (cellsWith col s) (coursesIn col) (col .fact) × Shares s want
+Complete col s want false = AllRight (cellsWith col s) (coursesIn col) (col .fact) → Shares s want → ⊥
 
 -- Repairs that the candidate lacks one of, if it lacks any.
 abbrev pub Lacking : Column → Choice → Choice → Choice → Bool → Choice → Type 0

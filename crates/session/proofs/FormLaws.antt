@@ -22,8 +22,8 @@ use Rattle.table.proofs.Strides.{sessionPlaces-rows}
 use Rattle.table.specs.Answer.{Verdict, found, over, hopeless, Within, Keeps, First}
 use Rattle.table.specs.Repairs.{permitted, factOf}
 use Rattle.table.specs.Sizes.{maxFacts, maxRow, sessionPlaces, unused}
-use Rattle.table.specs.Strips.{Cells, Course}
-use Rattle.table.specs.Tasks.{cellsOf, courseOf, KeepsFor, WellFormed}
+use Rattle.table.specs.Strips.{Cells, Courses}
+use Rattle.table.specs.Tasks.{cellsOf, coursesOf, KeepsFor, WellFormed}
 use Rattle.table.specs.declared.Task.{Task}
 use Rattle.session.specs.Sessions.{repairInForm, placeInForm, rowInForm, inForm}
 
@@ -42,7 +42,7 @@ getD-unused l n i low high =
 
 -- ---- a right row is in form
 
-module _ (c : Cells) (r : Course) (f : ℕ) (l : List ℕ) (keeps : Keeps c r f l) (rest : List ℕ) where
+module _ (c : Cells) (rs : Courses) (f : ℕ) (l : List ℕ) (keeps : Keeps c rs f l) (rest : List ℕ) where
   -- The i-th repair of a list that keeps fact f right.
   repair-in-form : (i : ℕ) → i < length l → repairInForm c f (length l ∷ (l ++ rest)) i ≡ true
   unfolding repairInForm
@@ -101,7 +101,7 @@ module _ (t : Task) (w : WellFormed t) (f : ℕ) where
       let row : List ℕ = length l ∷ (l ++ replicate (maxRow - length l) unused) in
       and-both _ _ (and-both _ _ (le-leb (length l) rowHopeless (omega (arith, p .1))) (fact-or-none l (p .0)))
       (all-everyBelow (placeInForm (cellsOf (t .table)) f row) maxRow
-      (found-place (cellsOf (t .table)) (courseOf (t .run)) f l (p .0 .member) (replicate (maxRow - length l) unused) refl (p .1)))
+      (found-place (cellsOf (t .table)) (coursesOf t) f l (p .0 .member) (replicate (maxRow - length l) unused) refl (p .1)))
   verdict-in-form over p =
       stuck-in-form (cellsOf (t .table)) f rowOver (omega arith) (omega arith)
       (stuck-fact (λ l first e. omega (arith, p .1 l (first .member), ap length e)))

@@ -12,12 +12,20 @@ use Rattle.table.specs.Join.{KeepsBelow, Inside}
 use Rattle.table.specs.Order.{isIn}
 use Rattle.table.specs.Repairs.{permits, permitted, chosen, repaired, numberOf, factOf, addEffect, dropNeed}
 use Rattle.table.specs.Sizes.{maxActions, kinds, perFact, perKind}
-use Rattle.table.specs.Strips.{Cells, Course, Right, stateAt}
+use Rattle.table.specs.Strips.{Cells, Course, Courses, Right, stateAt}
 use Rattle.table.proofs.FlagLaws.{and-left, and-right, and-both, or-left, or-right}
 use Rattle.table.proofs.GatherLaws.{passing, passing-from, passing-has, passing-ascending}
 use Rattle.table.proofs.JoinLaws.{keepsBelow-none, join-keeps, keepsBelow-works}
 use Rattle.table.proofs.RepairNumbers.{inside-permits, permitted-number}
 use Rattle.table.proofs.RunLaws.{stateAt-next}
+
+-- A run has a step, and its steps are actions of the table.
+pub record Steps (c : Cells) (r : Course) : Type 0 where
+  pub some : 0 < r .count
+  pub below : (i : ℕ) → i < r .count → r .step i < c .actions
+
+abbrev pub StepsIn : Cells → Courses → Type 0
+StepsIn c rs = (i : ℕ) → i < rs .many → Steps c (rs .course i)
 
 -- ---- the fullest list of fact f
 
@@ -81,19 +89,22 @@ module _ (c : Cells) (actions : c .actions ≤ maxActions) (f : ℕ) (inside : f
             ap (λ (j : ℕ). stateAt d r j f) (sym e) ∙ stateAt-next d r i f ∙
             or-right (stateAt d r i f && not (d .deletes (r .step i) f)) (d .adds (r .step i) f) (full-adds (r .step i) (steps i (omega arith)))
 
-    full-keeps : Keeps c r f (full c f)
-    full-keeps = record { permitted = full-permitted; own = full-own; right = full-right }
+  full-keeps : (rs : Courses) → StepsIn c rs → Keeps c rs f (full c f)
+  full-keeps rs steps = record {
+    permitted = full-permitted;
+    own = full-own;
+    right = λ i h. full-right (rs .course i) (steps i h .some) (steps i h .below);
+  }
 
 -- ---- all facts
 
-module _ (c : Cells) (r : Course) (actions : c .actions ≤ maxActions) (some : 0 < r .count)
-    (steps : (i : ℕ) → i < r .count → r .step i < c .actions) where
-  full-below : (n : ℕ) → n ≤ c .facts → (l : List ℕ) × KeepsBelow c r n l
-  full-below zero h = ([], keepsBelow-none c r)
+module _ (c : Cells) (rs : Courses) (actions : c .actions ≤ maxActions) (steps : StepsIn c rs) where
+  full-below : (n : ℕ) → n ≤ c .facts → (l : List ℕ) × KeepsBelow c rs n l
+  full-below zero h = ([], keepsBelow-none c rs)
   full-below (suc n) h =
       let p = full-below n (omega arith) in
-      (p .0 ++ full c n, join-keeps c r n (p .0) (full c n) (p .1) (full-keeps c actions n (omega arith) r some steps))
+      (p .0 ++ full c n, join-keeps c rs n (p .0) (full c n) (p .1) (full-keeps c actions n (omega arith) rs steps))
 
-  -- With a step, some list works.
-  pub step-works : Inside c r → (l : List ℕ) × Works c r l
-  step-works inside = let p = full-below (c .facts) (omega arith) in (p .0, keepsBelow-works c r inside (p .0) (p .1))
+  -- With a step in each run, some list works.
+  pub step-works : Inside c rs → (l : List ℕ) × Works c rs l
+  step-works inside = let p = full-below (c .facts) (omega arith) in (p .0, keepsBelow-works c rs inside (p .0) (p .1))

@@ -12,7 +12,7 @@ use Rattle.table.specs.Order.{isIn}
 use Rattle.table.specs.Refusals.{noListWorks}
 use Rattle.table.specs.Repairs.{repaired}
 use Rattle.table.specs.Strips.{Right, stateAt}
-use Rattle.table.specs.Tasks.{cellsOf, courseOf, WorksFor, WellFormed}
+use Rattle.table.specs.Tasks.{cellsOf, courseOf, coursesOf, WorksFor, WellFormed}
 use Rattle.table.specs.declared.Task.{Task}
 use Rattle.table.proofs.AnswerLaws.{within-unique}
 use Rattle.table.proofs.CountingLaws.{some-passes, none-passes}
@@ -43,8 +43,8 @@ module _ (t : Task) where
   nothing-works : WellFormed t → t .run .count ≡ 0 → ((f : ℕ) → f < t .table .facts → missing f ≡ false) → WorksFor t []
   unfolding courseOf missing
   nothing-works w e none = record {
-    permitted = permitted-none (cellsOf (t .table)) (courseOf (t .run));
-    valid = right-valid (repaired (cellsOf (t .table)) (isIn [])) (courseOf (t .run)) right;
+    permitted = permitted-none (cellsOf (t .table)) (coursesOf t);
+    valid = λ i h. right-valid (repaired (cellsOf (t .table)) (isIn [])) (courseOf (t .run)) right;
   }
     where
       present : (a b : Bool) → a ≡ true → (a && not b) ≡ false → b ≡ true
@@ -68,7 +68,7 @@ module _ (t : Task) where
     where
       with-step : 0 < t .run .count → ⊥
       with-step l =
-          let p = step-works (cellsOf (t .table)) (courseOf (t .run)) (w .actions-high) l (w .steps-below) (formed-inside t w) in
+          let p = step-works (cellsOf (t .table)) (coursesOf t) (w .actions-high) (λ i h. record { some = l; below = w .steps-below }) (formed-inside t w) in
           none (p .0) (p .1)
 
       without : t .run .count ≡ 0 → Stuck t
@@ -84,7 +84,7 @@ module _ (t : Task) where
   pub stuck-hopeless : (limit : ℕ) → Stuck t → Within (WorksFor t) limit hopeless
   unfolding courseOf
   stuck-hopeless limit s l w =
-      true≢false (sym (w .valid .reaches (s .fact) (s .goal)) ∙ end-start (s .steps) (isIn l) (s .fact) ∙ s .absent)
+      true≢false (sym (w .valid 0 (omega arith) .reaches (s .fact) (s .goal)) ∙ end-start (s .steps) (isIn l) (s .fact) ∙ s .absent)
 
 -- ---- the same of the refusal
 

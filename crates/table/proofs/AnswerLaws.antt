@@ -10,12 +10,12 @@ use lib.Dec.{ltb}
 use lib.ListN.{length}
 use Rattle.table.proofs.OrderLaws.{≼-refl, ≼-length, ≼-trans, ≼-antisymmetric, ascending-append, ascending-raise, isIn-either}
 use Rattle.table.proofs.RepairNumbers.{permitted-inside}
-use Rattle.table.proofs.RunLaws.{SameAt, SameCourseAt, right-same}
+use Rattle.table.proofs.RunLaws.{SameAt, SameCoursesAt, all-right-same}
 use Rattle.table.specs.Answer.{Permitted, Keeps, First, Verdict, found, over, hopeless, Within}
 use Rattle.table.specs.Join.{isHopeless, isOver, foundList}
 use Rattle.table.specs.Order.{Ascending, isIn, _≼_}
 use Rattle.table.specs.Repairs.{dropDelete, addEffect, dropNeed, byKind, permits, permitted, chosen, repaired, factOf, kindOf, actionOf}
-use Rattle.table.specs.Strips.{Cells, Course}
+use Rattle.table.specs.Strips.{Cells, Course, Courses}
 
 -- ---- one answer
 
@@ -113,15 +113,15 @@ module _ (f : ℕ) (c d : Cells) (same : AlikeAt f c d) where
     deletes = λ i h j. same .deletes (r .step i) j && not (chosen R f dropDelete (r .step i));
   }
 
-  -- What keeps a fact right depends only on its cells, its course and what is permitted.
-  pub keeps-alike : (r s : Course) → SameCourseAt f r s → (l : List ℕ) → Keeps c r f l → Keeps d s f l
-  keeps-alike r s course l keeps = record {
+  -- What keeps a fact right depends only on its cells, its courses and what is permitted.
+  pub keeps-alike : (rs ss : Courses) → SameCoursesAt f rs ss → (l : List ℕ) → Keeps c rs f l → Keeps d ss f l
+  keeps-alike rs ss courses l keeps = record {
     permitted = record {
       ascending = keeps .permitted .ascending;
       each = λ n h. sym (alike-permitted n (keeps .own n h)) ∙ keeps .permitted .each n h;
     };
     own = keeps .own;
-    right = right-same f r s (repaired c (isIn l)) (repaired d (isIn l)) (alike-repaired r (isIn l)) course (keeps .right);
+    right = all-right-same f rs ss (repaired c (isIn l)) (repaired d (isIn l)) (λ i h. alike-repaired (rs .course i) (isIn l)) courses (keeps .right);
   }
 
 -- ---- what the flags of a verdict say

@@ -8,9 +8,9 @@ use lib.ListN.{length}
 use Rattle.table.proofs.FlagLaws.{both, and-both}
 use Rattle.table.proofs.CountingLaws.{everyBelow-all, all-everyBelow}
 use Rattle.table.specs.Counting.{everyBelow}
-use Rattle.table.specs.Deciding.{isRight, isShaped}
+use Rattle.table.specs.Deciding.{isRight, isAllRight, isShaped}
 use Rattle.table.specs.Sizes.{maxActions}
-use Rattle.table.specs.Strips.{Cells, Course, stateAt, Right}
+use Rattle.table.specs.Strips.{Cells, Course, Courses, stateAt, Right, AllRight}
 use Rattle.table.specs.Tasks.{Shaped}
 use Rattle.table.specs.declared.Task.{Task}
 
@@ -23,15 +23,23 @@ implied : (a b : Bool) → (a ≡ true → b ≡ true) → (not a || b) ≡ true
 implied true b h = h refl
 implied false b h = refl
 
-pub is-right : (c : Cells) (r : Course) (f : ℕ) → isRight c r f ≡ true → Right c r f
+is-right : (c : Cells) (r : Course) (f : ℕ) → isRight c r f ≡ true → Right c r f
 unfolding isRight
 is-right c r f h =
     let p = both (everyBelow (λ i. not (c .needs (r .step i) f) || stateAt c r i f) (r .count)) _ h in
     record { needed = λ i low. implies _ _ (everyBelow-all _ (r .count) (p .0) i low); wanted = implies _ _ (p .1) }
 
-pub right-is : (c : Cells) (r : Course) (f : ℕ) → Right c r f → isRight c r f ≡ true
+right-is : (c : Cells) (r : Course) (f : ℕ) → Right c r f → isRight c r f ≡ true
 unfolding isRight
 right-is c r f h = and-both _ _ (all-everyBelow _ (r .count) (λ i low. implied _ _ (h .needed i low))) (implied _ _ (h .wanted))
+
+pub is-all-right : (c : Cells) (rs : Courses) (f : ℕ) → isAllRight c rs f ≡ true → AllRight c rs f
+unfolding isAllRight
+is-all-right c rs f h i low = is-right c (rs .course i) f (everyBelow-all (λ i. isRight c (rs .course i) f) (rs .many) h i low)
+
+pub all-right-is : (c : Cells) (rs : Courses) (f : ℕ) → AllRight c rs f → isAllRight c rs f ≡ true
+unfolding isAllRight
+all-right-is c rs f h = all-everyBelow (λ i. isRight c (rs .course i) f) (rs .many) (λ i low. right-is c (rs .course i) f (h i low))
 
 pub is-shaped : (t : Task) → isShaped t ≡ true → Shaped t
 unfolding isShaped

@@ -18,7 +18,7 @@ use Rattle.table.specs.Order.{Ascending, AscendingFrom, isIn, _≼_}
 use Rattle.table.specs.Published.{permitsPublished, permittedPublished, WorksPublished}
 use Rattle.table.specs.Repairs.{dropDelete, addEffect, dropNeed, byKind, numberOf, factOf, kindOf, actionOf, repairable, permits, permitted, chosen, repaired}
 use Rattle.table.specs.Sizes.{maxActions, kinds}
-use Rattle.table.specs.Strips.{Cells, Course}
+use Rattle.table.specs.Strips.{Cells, Course, Courses}
 
 -- ---- a list without the numbers that fail a test
 
@@ -69,9 +69,9 @@ module _ (c : Cells) where
       more false true p = refl
       more false false p = p
 
-  works-published : (r : Course) (l : List ℕ) → Works c r l → WorksPublished c r l
+  works-published : (rs : Courses) (l : List ℕ) → Works c rs l → WorksPublished c rs l
   unfolding permitted permittedPublished
-  works-published r l w = record {
+  works-published rs l w = record {
     permitted = record {
       ascending = w .permitted .ascending;
       each = λ n h. permits-published (factOf n) (kindOf n) (actionOf n) (w .permitted .each n h);
@@ -119,15 +119,17 @@ module _ (c : Cells) where
       deletes = λ i h j. c .deletes (r .step i) f && not (chosen-kept f dropDelete (r .step i) (omega arith) (λ p. p) j);
     }
 
-  published-works : (r : Course) (l : List ℕ) → WorksPublished c r l → (m : List ℕ) × Works c r m × (m ≼ l)
-  published-works r l w = (
+  published-works : (rs : Courses) (l : List ℕ) → WorksPublished c rs l → (m : List ℕ) × Works c rs m × (m ≼ l)
+  published-works rs l w = (
     kept (permitted c) l,
     record {
       permitted = record { ascending = ascending; each = λ n h. and-right (isIn l n) (permitted c n) (from n h) };
-      valid = right-valid (repaired c (isIn (kept (permitted c) l))) r
+      valid = λ i h.
+          let r = rs .course i in
+          right-valid (repaired c (isIn (kept (permitted c) l))) r
           (λ f.
           right-same f r r (repaired c (isIn l)) (repaired c (isIn (kept (permitted c) l))) (same-table l (w .permitted .each) r f)
-          (sameCourse-refl f r) (valid-right (repaired c (isIn l)) r (w .valid) f));
+          (sameCourse-refl f r) (valid-right (repaired c (isIn l)) r (w .valid i h) f));
     },
     subset-first 0 l 0 (kept (permitted c) l) ascending (w .permitted .ascending) (λ n h. and-left (isIn l n) (permitted c n) (from n h)),
   )
@@ -141,9 +143,9 @@ module _ (c : Cells) where
 -- ---- the theorem
 
 -- The first of the shortest lists is the same, whether or not kind 1 is permitted for every fact.
-pub published-first : (c : Cells) (r : Course) (l : List ℕ) → First (Works c r) l ↔ First (WorksPublished c r) l
-published-first c r = more-first (Works c r) (WorksPublished c r) (works-published c r) (published-works c r)
+pub published-first : (c : Cells) (rs : Courses) (l : List ℕ) → First (Works c rs) l ↔ First (WorksPublished c rs) l
+published-first c rs = more-first (Works c rs) (WorksPublished c rs) (works-published c rs) (published-works c rs)
 
 -- And so is what there is to say within a limit: refusals 9 and 10 too.
-pub published-within : (c : Cells) (r : Course) (limit : ℕ) (v : Verdict) → Within (Works c r) limit v ↔ Within (WorksPublished c r) limit v
-published-within c r = more-within (Works c r) (WorksPublished c r) (works-published c r) (published-works c r)
+pub published-within : (c : Cells) (rs : Courses) (limit : ℕ) (v : Verdict) → Within (Works c rs) limit v ↔ Within (WorksPublished c rs) limit v
+published-within c rs = more-within (Works c rs) (WorksPublished c rs) (works-published c rs) (published-works c rs)

@@ -12,7 +12,7 @@ use Rattle.table.proofs.RunLaws.{SameAt, Eases, sameCourse-refl, right-
 use Rattle.table.specs.Order.{isIn}
 use Rattle.table.specs.Repairs.{dropDelete, addEffect, dropNeed, numberOf, factOf, repairable, chosen, repaired}
 use Rattle.table.specs.Sizes.{maxActions, kinds}
-use Rattle.table.specs.Strips.{Cells, Course, Right}
+use Rattle.table.specs.Strips.{Cells, Course, Courses, AllRight}
 
 -- ---- sets of repairs that agree on one fact's numbers
 
@@ -35,10 +35,11 @@ repaired-same c r f R S agree = record {
   deletes = λ i h j. c .deletes (r .step i) f && not (chosen-same f R S agree dropDelete (r .step i) (omega arith) j);
 }
 
-pub right-agree : (c : Cells) (r : Course) (f : ℕ) (R S : ℕ → Bool) → ((n : ℕ) → factOf n ≡ f → R n ≡ S n)
-    → Right (repaired c R) r f → Right (repaired c S) r f
-right-agree c r f R S agree =
-    right-same f r r (repaired c R) (repaired c S) (repaired-same c r f R S agree) (sameCourse-refl f r)
+pub right-agree : (c : Cells) (rs : Courses) (f : ℕ) (R S : ℕ → Bool) → ((n : ℕ) → factOf n ≡ f → R n ≡ S n)
+    → AllRight (repaired c R) rs f → AllRight (repaired c S) rs f
+right-agree c rs f R S agree right i h =
+    let r = rs .course i in
+    right-same f r r (repaired c R) (repaired c S) (repaired-same c r f R S agree) (sameCourse-refl f r) (right i h)
 
 -- Without repairs the table is as it was.
 chosen-none : (f k a : ℕ) → chosen (isIn []) f k a ≡ false
@@ -85,9 +86,11 @@ repaired-eases c r f R S more = record {
         and-grows b (not (chosen S f k a)) (not (chosen R f k a))
         (not-shrinks (chosen R f k a) (chosen S f k a) (chosen-grows f R S more k a h))
 
-pub right-more : (c : Cells) (r : Course) (f : ℕ) (R S : ℕ → Bool)
-    → ((n : ℕ) → factOf n ≡ f → R n ≡ true → S n ≡ true) → Right (repaired c R) r f → Right (repaired c S) r f
-right-more c r f R S more = right-eases f r (repaired c R) (repaired c S) (repaired-eases c r f R S more)
+pub right-more : (c : Cells) (rs : Courses) (f : ℕ) (R S : ℕ → Bool)
+    → ((n : ℕ) → factOf n ≡ f → R n ≡ true → S n ≡ true) → AllRight (repaired c R) rs f → AllRight (repaired c S) rs f
+right-more c rs f R S more right i h =
+    let r = rs .course i in
+    right-eases f r (repaired c R) (repaired c S) (repaired-eases c r f R S more) (right i h)
 
 -- ---- the cell that a repair changes
 
@@ -122,11 +125,11 @@ pub record PartOf (f : ℕ) (l part : List ℕ) : Type 0 where
 part-agree : (f : ℕ) (l part : List ℕ) → PartOf f l part → (n : ℕ) → factOf n ≡ f → isIn l n ≡ isIn part n
 part-agree f l part p n e = same-flag (isIn l n) (isIn part n) (p .all n e) (p .within n e)
 
-pub right-of-part : (c : Cells) (r : Course) (f : ℕ) (l part : List ℕ) → PartOf f l part
-    → Right (repaired c (isIn l)) r f → Right (repaired c (isIn part)) r f
-right-of-part c r f l part p = right-agree c r f (isIn l) (isIn part) (part-agree f l part p)
+pub right-of-part : (c : Cells) (rs : Courses) (f : ℕ) (l part : List ℕ) → PartOf f l part
+    → AllRight (repaired c (isIn l)) rs f → AllRight (repaired c (isIn part)) rs f
+right-of-part c rs f l part p = right-agree c rs f (isIn l) (isIn part) (part-agree f l part p)
 
-pub right-of-whole : (c : Cells) (r : Course) (f : ℕ) (l part : List ℕ) → PartOf f l part
-    → Right (repaired c (isIn part)) r f → Right (repaired c (isIn l)) r f
-right-of-whole c r f l part p =
-    right-agree c r f (isIn part) (isIn l) (λ n e. sym (part-agree f l part p n e))
+pub right-of-whole : (c : Cells) (rs : Courses) (f : ℕ) (l part : List ℕ) → PartOf f l part
+    → AllRight (repaired c (isIn part)) rs f → AllRight (repaired c (isIn l)) rs f
+right-of-whole c rs f l part p =
+    right-agree c rs f (isIn part) (isIn l) (λ n e. sym (part-agree f l part p n e))

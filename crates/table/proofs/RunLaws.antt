@@ -7,7 +7,7 @@ use native.Mathlib.Nat.{le-refl, le-of-lt}
 use native.Mathlib.Numerals.{add-one}
 use native.Mathlib.Omega.{arith}
 use Rattle.table.proofs.FlagLaws.{or-cases, or-left, or-right, and-left, and-right, and-both, not-shrinks}
-use Rattle.table.specs.Strips.{Cells, Course, stateAt, Valid, Right}
+use Rattle.table.specs.Strips.{Cells, Course, Courses, stateAt, Valid, Right, AllValid, AllRight}
 
 -- ---- each fact by itself
 
@@ -16,6 +16,12 @@ valid-right c r v f = record { needed = λ i h. v .may-run i h f; wanted = v .re
 
 pub right-valid : (c : Cells) (r : Course) → ((f : ℕ) → Right c r f) → Valid c r
 right-valid c r v = record { may-run = λ i h f. v f .needed i h; reaches = λ f. v f .wanted }
+
+pub valid-all-right : (c : Cells) (rs : Courses) → AllValid c rs → (f : ℕ) → AllRight c rs f
+valid-all-right c rs v f i h = valid-right c (rs .course i) (v i h) f
+
+pub right-all-valid : (c : Cells) (rs : Courses) → ((f : ℕ) → AllRight c rs f) → AllValid c rs
+right-all-valid c rs v i h = right-valid c (rs .course i) (λ f. v f i h)
 
 -- ---- the state, as a loop over the steps has it
 
@@ -54,6 +60,17 @@ sameCourse-sym f r s same = record {
   steps = λ i h. sym (same .steps i (omega (arith, same .count)));
 }
 
+-- As many runs, each the same at fact f.
+pub record SameCoursesAt (f : ℕ) (rs ss : Courses) : Type 0 where
+  pub many : rs .many ≡ ss .many
+  pub each : (i : ℕ) → i < rs .many → SameCourseAt f (rs .course i) (ss .course i)
+
+pub sameCourses-sym : (f : ℕ) (rs ss : Courses) → SameCoursesAt f rs ss → SameCoursesAt f ss rs
+sameCourses-sym f rs ss same = record {
+  many = sym (same .many);
+  each = λ i h. sameCourse-sym f (rs .course i) (ss .course i) (same .each i (omega (arith, same .many)));
+}
+
 module _ (f : ℕ) (r s : Course) (c d : Cells) (table : SameAt f r c d) (run : SameCourseAt f r s) where
   pub stateAt-same : (i : ℕ) → i ≤ r .count → stateAt c r i f ≡ stateAt d s i f
   unfolding stateAt
@@ -74,6 +91,12 @@ module _ (f : ℕ) (r s : Course) (c d : Cells) (table : SameAt f r c d) (run : 
         ap (λ i. stateAt d s i f) (sym (run .count)) ∙ sym (stateAt-same (r .count) (le-refl (r .count))) ∙
         right .wanted (run .goal ∙ g);
   }
+
+pub all-right-same : (f : ℕ) (rs ss : Courses) (c d : Cells) → ((i : ℕ) → i < rs .many → SameAt f (rs .course i) c d) → SameCoursesAt f rs ss
+    → AllRight c rs f → AllRight d ss f
+all-right-same f rs ss c d table same right i h =
+    let inside : i < rs .many = omega (arith, same .many) in
+    right-same f (rs .course i) (ss .course i) c d (table i inside) (same .each i inside) (right i inside)
 
 -- ---- an eased table keeps a fact right
 

@@ -6,20 +6,20 @@ use mathlib.Core.Path.{_≡_, refl, ap, _∙_}
 use Prim.Native.Nat.{ℕ}
 use native.Mathlib.Omega.{arith}
 use Rattle.facts.specs.Sets.{has, within}
-use Rattle.table.proofs.DecidingLaws.{is-right, is-shaped}
+use Rattle.table.proofs.DecidingLaws.{is-all-right, is-shaped}
 use Rattle.table.proofs.FlagLaws.{both, by-order}
 use Rattle.table.proofs.CountingLaws.{everyBelow-all}
 use Rattle.table.proofs.Formation.{formed-well}
 use Rattle.table.proofs.JoinLaws.{formed-inside, right-outside}
 use Rattle.table.proofs.OrderLaws.{isIn-none, isIn-cases, ≼-length}
-use Rattle.table.proofs.RunLaws.{right-valid}
+use Rattle.table.proofs.RunLaws.{right-all-valid}
 use Rattle.table.specs.Bench.{listingTask, goalsAtStart, addsAndDeletes, deletesTheGoal, needsLastFact}
 use Rattle.table.specs.Counting.{everyBelow}
-use Rattle.table.specs.Deciding.{isRight, isShaped}
+use Rattle.table.specs.Deciding.{isRight, isAllRight, isShaped}
 use Rattle.table.specs.Order.{Ascending, isIn, _≼_}
 use Rattle.table.specs.Repairs.{permits, permitted, chosen, repaired}
-use Rattle.table.specs.Strips.{Cells, stateAt, Right}
-use Rattle.table.specs.Tasks.{cellsOf, courseOf, formed, sizesFormed, maskFormed, actionFormed, stepFormed, WellFormed, WorksFor}
+use Rattle.table.specs.Strips.{Cells, stateAt, AllRight}
+use Rattle.table.specs.Tasks.{cellsOf, courseOf, coursesOf, formed, sizesFormed, maskFormed, actionFormed, stepFormed, WellFormed, WorksFor}
 use Rattle.table.specs.Worked.{twoDeletes, Worked}
 use Rattle.table.specs.declared.Task.{Task}
 
@@ -38,15 +38,15 @@ all-permitted c (x ∷ l) h n m =
 
 -- Every fact is right in the table with the list applied, if those of the task are.
 abbrev rightWith : Task → List ℕ → ℕ → Bool
-rightWith t l = isRight (repaired (cellsOf (t .table)) (isIn l)) (courseOf (t .run))
+rightWith t l = isAllRight (repaired (cellsOf (t .table)) (isIn l)) (coursesOf t)
 
 each-right : (t : Task) (l : List ℕ) → WellFormed t → everyBelow (rightWith t l) (t .table .facts) ≡ true → (f : ℕ)
-    → Right (repaired (cellsOf (t .table)) (isIn l)) (courseOf (t .run)) f
+    → AllRight (repaired (cellsOf (t .table)) (isIn l)) (coursesOf t) f
 unfolding cellsOf
 each-right t l w h f =
     by-order f (t .table .facts)
-    (λ low. is-right (repaired (cellsOf (t .table)) (isIn l)) (courseOf (t .run)) f (everyBelow-all (rightWith t l) (t .table .facts) h f low))
-    (λ high. right-outside (cellsOf (t .table)) (courseOf (t .run)) (formed-inside t w) f high (isIn l))
+    (λ low. is-all-right (repaired (cellsOf (t .table)) (isIn l)) (coursesOf t) f (everyBelow-all (rightWith t l) (t .table .facts) h f low))
+    (λ high. right-outside (cellsOf (t .table)) (coursesOf t) (formed-inside t w) f high (isIn l))
 
 -- A well-formed task, with arrays of their declared lengths, and a permitted list with which every fact is right.
 unfoldable passes : Task → List ℕ → Bool
@@ -60,7 +60,7 @@ works-by t l up h =
     let s = both (allPermitted (cellsOf (t .table)) l) (everyBelow (rightWith t l) (t .table .facts)) (p .1) in
     record {
       permitted = record { ascending = up; each = all-permitted (cellsOf (t .table)) l (s .0) };
-      valid = right-valid (repaired (cellsOf (t .table)) (isIn l)) (courseOf (t .run))
+      valid = right-all-valid (repaired (cellsOf (t .table)) (isIn l)) (coursesOf t)
           (each-right t l (formed-well t (is-shaped t (q .0)) (q .1)) (s .1));
     }
 
@@ -80,10 +80,10 @@ later (inr (inr h)) = absurd (omega (arith, h .0))
 -- ---- the theorem
 
 pub worked : Worked
-unfolding passes isShaped formed sizesFormed actionFormed maskFormed stepFormed everyBelow cellsOf courseOf stateAt isRight allPermitted permitted permits chosen isIn has within
+unfolding passes isShaped formed sizesFormed actionFormed maskFormed stepFormed everyBelow cellsOf courseOf stateAt isRight isAllRight allPermitted permitted permits chosen isIn has within
 worked =
     let zero : WorksFor deletesTheGoal (0 ∷ []) = works-by deletesTheGoal (0 ∷ []) (omega arith, tt) refl in
-    let none : WorksFor deletesTheGoal [] → ⊥ = λ w. false≢true (w .valid .reaches 0 refl) in
+    let none : WorksFor deletesTheGoal [] → ⊥ = λ w. false≢true (w .valid 0 (omega arith) .reaches 0 refl) in
     let need : WorksFor twoDeletes (66 ∷ []) = works-by twoDeletes (66 ∷ []) (omega arith, tt) refl in
     record {
       refusals = refl;
@@ -93,11 +93,11 @@ worked =
       permits-need = refl;
       row-2 = (
         works-by listingTask (97 ∷ 224 ∷ []) (omega arith, (omega arith, tt)) refl,
-        λ w. false≢true (w .valid .may-run 2 (omega arith) 2 refl),
-        λ w. false≢true (w .valid .may-run 2 (omega arith) 1 refl),
+        λ w. false≢true (w .valid 0 (omega arith) .may-run 2 (omega arith) 2 refl),
+        λ w. false≢true (w .valid 0 (omega arith) .may-run 2 (omega arith) 1 refl),
       );
       row-4 = works-by goalsAtStart [] tt refl;
-      row-5 = λ m w. false≢true (w .valid .reaches 0 refl);
+      row-5 = λ m w. false≢true (w .valid 0 (omega arith) .reaches 0 refl);
       row-6 = works-by addsAndDeletes [] tt refl;
       row-7 = (
         (record { member = zero; least = zero-first (WorksFor deletesTheGoal) none }, omega arith),
@@ -107,12 +107,12 @@ worked =
       row-7-over = ((0 ∷ [], zero), λ m w. ≼-length (0 ∷ []) m (zero-first (WorksFor deletesTheGoal) none m w));
       row-8 = (
         works-by needsLastFact (6112 ∷ []) (omega arith, tt) refl,
-        λ w. false≢true (w .valid .may-run 0 (omega arith) 63 refl),
+        λ w. false≢true (w .valid 0 (omega arith) .may-run 0 (omega arith) 63 refl),
       );
       inclusion = (
         works-by twoDeletes (0 ∷ 1 ∷ []) (omega arith, (omega arith, tt)) refl,
-        λ w. false≢true (w .valid .may-run 3 (omega arith) 0 refl),
-        λ w. false≢true (w .valid .may-run 1 (omega arith) 0 refl),
+        λ w. false≢true (w .valid 0 (omega arith) .may-run 3 (omega arith) 0 refl),
+        λ w. false≢true (w .valid 0 (omega arith) .may-run 1 (omega arith) 0 refl),
       );
       number = (need, λ p. absurd (omega (arith, ≼-length (0 ∷ 1 ∷ []) (66 ∷ []) (p .least (66 ∷ []) need))));
     }

@@ -6,13 +6,17 @@ use lib.Dec.{eqb}
 use lib.ListN.{length}
 use Rattle.table.specs.Counting.{everyBelow}
 use Rattle.table.specs.Sizes.{maxActions, maxSteps}
-use Rattle.table.specs.Strips.{Cells, Course, stateAt}
+use Rattle.table.specs.Strips.{Cells, Course, Courses, stateAt}
 use Rattle.table.specs.declared.Task.{Task}
 
 -- "present wherever it is needed, and at the end if it is a goal"
 unfoldable pub isRight : Cells → Course → ℕ → Bool
 isRight c r f =
     everyBelow (λ i. not (c .needs (r .step i) f) || stateAt c r i f) (r .count) && (not (r .goal f) || stateAt c r (r .count) f)
+
+-- in every run
+unfoldable pub isAllRight : Cells → Courses → ℕ → Bool
+isAllRight c rs f = everyBelow (λ i. isRight c (rs .course i) f) (rs .many)
 
 unfoldable pub isShaped : Task → Bool
 isShaped t =

@@ -10,18 +10,18 @@ use Rattle.table.specs.Lists.{gather}
 use Rattle.table.specs.Answer.{Permitted, First, Verdict, found, over, hopeless}
 use Rattle.table.specs.Order.{isIn}
 use Rattle.table.specs.Repairs.{repaired, factOf}
-use Rattle.table.specs.Strips.{Cells, Course, Right}
+use Rattle.table.specs.Strips.{Cells, Courses, AllRight}
 
 -- A list keeps the facts below n right: permitted repairs of those facts alone, with which each of them is right.
-pub record KeepsBelow (c : Cells) (r : Course) (n : ℕ) (l : List ℕ) : Type 0 where
+pub record KeepsBelow (c : Cells) (rs : Courses) (n : ℕ) (l : List ℕ) : Type 0 where
   pub permitted : Permitted c l
   pub own : (m : ℕ) → isIn l m ≡ true → factOf m < n
-  pub right : (f : ℕ) → f < n → Right (repaired c (isIn l)) r f
+  pub right : (f : ℕ) → f < n → AllRight (repaired c (isIn l)) rs f
 
 -- "no set has a fact at or above F" (01, "Sizes"), of the two sets that can make a fact wrong.
-pub record Inside (c : Cells) (r : Course) : Type 0 where
+pub record Inside (c : Cells) (rs : Courses) : Type 0 where
   pub needs : (a f : ℕ) → c .facts ≤ f → c .needs a f ≡ false
-  pub goal : (f : ℕ) → c .facts ≤ f → r .goal f ≡ false
+  pub goal : (i : ℕ) → i < rs .many → (f : ℕ) → c .facts ≤ f → rs .course i .goal f ≡ false
 
 unfoldable pub isHopeless : Verdict → Bool
 isHopeless (found l) = false

@@ -7,7 +7,7 @@ use Prim.Native.Nat.{ℕ}
 use lib.Dec.{ltb}
 use Rattle.table.specs.Order.{Ascending, isIn}
 use Rattle.table.specs.Repairs.{byKind, factOf, kindOf, actionOf, repaired}
-use Rattle.table.specs.Strips.{Cells, Course, Valid}
+use Rattle.table.specs.Strips.{Cells, Courses, AllValid}
 
 -- As `permits` of Repairs, but for kind 1: of a fact and an action of the task it is permitted, whether or not f is an add of a.
 unfoldable pub permitsPublished : Cells → ℕ → ℕ → ℕ → Bool
@@ -21,6 +21,6 @@ pub record PermittedPublished (c : Cells) (l : List ℕ) : Type 0 where
   pub ascending : Ascending l
   pub each : (n : ℕ) → isIn l n ≡ true → permittedPublished c n ≡ true
 
-pub record WorksPublished (c : Cells) (r : Course) (l : List ℕ) : Type 0 where
+pub record WorksPublished (c : Cells) (rs : Courses) (l : List ℕ) : Type 0 where
   pub permitted : PermittedPublished c l
-  pub valid : Valid (repaired c (isIn l)) r
+  pub valid : AllValid (repaired c (isIn l)) rs

@@ -20,6 +20,14 @@ pub record Course : Type 0 where
   pub count : ℕ
   pub step : ℕ → ℕ
 
+-- The known runs of one table: so many, each a course (source document 000, multiple instances). A task has one of them.
+pub record Courses : Type 0 where
+  pub many : ℕ
+  pub course : ℕ → Course
+
+abbrev pub one : Course → Courses
+one r = record { many = 1; course = λ i. r }
+
 -- "Afterwards the state is (state without deletes) joined with adds": add wins.
 abbrev pub afterStep : (ℕ → Bool) → (ℕ → Bool) → (ℕ → Bool) → ℕ → Bool
 afterStep state add delete f = (state f && not (delete f)) || add f
@@ -38,3 +46,10 @@ pub record Valid (c : Cells) (r : Course) : Type 0 where
 pub record Right (c : Cells) (r : Course) (f : ℕ) : Type 0 where
   pub needed : (i : ℕ) → i < r .count → c .needs (r .step i) f ≡ true → stateAt c r i f ≡ true
   pub wanted : r .goal f ≡ true → stateAt c r (r .count) f ≡ true
+
+-- Each of the runs is valid, and the fact is right in each.
+abbrev pub AllValid : Cells → Courses → Type 0
+AllValid c rs = (i : ℕ) → i < rs .many → Valid c (rs .course i)
+
+abbrev pub AllRight : Cells → Courses → ℕ → Type 0
+AllRight c rs f = (i : ℕ) → i < rs .many → Right c (rs .course i) f

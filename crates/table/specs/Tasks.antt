@@ -9,7 +9,7 @@ use Rattle.facts.specs.Sets.{has, within}
 use Rattle.table.specs.Counting.{everyBelow}
 use Rattle.table.specs.Sizes.{maxFacts, maxActions, maxSteps, maxLimit}
 use Rattle.table.specs.Repairs.{byKind}
-use Rattle.table.specs.Strips.{Cells, Course}
+use Rattle.table.specs.Strips.{Cells, Course, Courses, one}
 use Rattle.table.specs.Answer.{Works, Keeps}
 use Rattle.table.specs.declared.Table.{Table}
 use Rattle.table.specs.declared.Run.{Run}
@@ -33,12 +33,16 @@ courseOf r = record {
   step = λ i. getD (r .steps) i 0;
 }
 
+-- The runs of a task: the one that it has.
+abbrev pub coursesOf : Task → Courses
+coursesOf t = one (courseOf (t .run))
+
 -- The lists that work for a task, and those that keep one fact of it right.
 abbrev pub WorksFor : Task → List ℕ → Type 0
-WorksFor t = Works (cellsOf (t .table)) (courseOf (t .run))
+WorksFor t = Works (cellsOf (t .table)) (coursesOf t)
 
 abbrev pub KeepsFor : Task → ℕ → List ℕ → Type 0
-KeepsFor t f = Keeps (cellsOf (t .table)) (courseOf (t .run)) f
+KeepsFor t f = Keeps (cellsOf (t .table)) (coursesOf t) f
 
 -- The task with another limit.
 abbrev pub withLimit : Task → ℕ → Task

@@ -5,8 +5,8 @@ use native.Mathlib.Omega.{arith}
 use borrow.Author.Needs.{needs}
 use lib.ListN.{length}
 use Rattle.table.specs.Sizes.{maxRow}
-use Rattle.search.specs.Columns.{KeepsIn, courseIn}
-use Rattle.table.specs.Strips.{Right}
+use Rattle.search.specs.Columns.{KeepsIn, coursesIn}
+use Rattle.table.specs.Strips.{AllRight}
 use Rattle.search.specs.Searching.{cellsWith}
 use Rattle.search.proofs.SearchLaws.{gap-right, gap-missing, missing-wrong}
 use Rattle.search.proofs.LeastLaws.{nothing-allowed, nothing-out, fullest-allowed, short-none, short-found, longer-none, longer-than}
@@ -21,13 +21,14 @@ abbrev μ-loop : tie.MeasureT-loop
 
 -- the fact is wrong as it stands
 wrong : (c : tie.Else1 Inv-loop μ-loop)
-    → Right (cellsWith (c .before .before .before .args .col) (c .before .before .nothing .result)) (courseIn (c .before .before .before .args .col))
+    → AllRight (cellsWith (c .before .before .before .args .col) (c .before .before .nothing .result)) (coursesIn (c .before .before .before .args .col))
     (c .before .before .before .args .col .fact) → ⊥
 wrong c =
     let gap = c .before .first-gap in
     let empty = c .before .before .nothing in
     let col = c .before .before .before .args .col in
-    missing-wrong col (empty .result) (gap .result) (gap-missing col (empty .result) (gap .result) (gap .ensures) (c .if1 .left))
+    λ right.
+    missing-wrong col (empty .result) (gap .result) (gap-missing col (empty .result) (gap .result) (gap .ensures) (c .if1 .left)) (right 0 (omega arith))
 
 nothing-requires : tie.Need-nothing-requires Inv-loop μ-loop
 nothing-requires c κs = search needs
@@ -40,7 +41,7 @@ returns c =
     let gap = c .before .first-gap in
     let empty = c .before .before .nothing in
     let col = c .before .before .before .args .col in
-    short-none col (empty .result) (empty .ensures) (gap-right col (empty .result) (gap .result) (gap .ensures) (c .if1 .taken))
+    short-none col (empty .result) (empty .ensures) (λ i h. gap-right col (empty .result) (gap .result) (gap .ensures) (c .if1 .taken))
 
 fullest-requires : tie.Need-fullest-requires Inv-loop μ-loop
 fullest-requires c κs = c .before .before .before .pre
