@@ -10,13 +10,13 @@ use lib.ListN.{length}
 use Rattle.table.specs.Order.{isIn}
 use Rattle.table.specs.Repairs.{repaired}
 use Rattle.table.specs.Sizes.{perFact}
-use Rattle.table.specs.Strips.{AllRight}
+use Rattle.table.specs.Strips.{Courses, AllRight}
 use Rattle.table.proofs.FlagLaws.{is-false, or-cases, or-left, or-right}
 use Rattle.table.proofs.RepairLaws.{right-more}
 use Rattle.search.specs.declared.Column.{Column}
 use Rattle.search.specs.declared.Choice.{Choice}
-use Rattle.search.specs.Choices.{inChoice, numbersIn, listOf, codeNumber, Contains, Misses, Apart}
-use Rattle.search.specs.Columns.{cellsIn, coursesIn, KeepsIn}
+use Rattle.search.specs.Choices.{inChoice, numbersIn, listOf, codeNumber, Contains, Apart}
+use Rattle.search.specs.Columns.{cellsIn}
 use Rattle.search.specs.Searching.{Complete, Sought, Lacks, Among, OutFor, Reached}
 use Rattle.search.specs.Trying.{withRepair, bothOf, withoutThose, CodesBelow, NextIn}
 use Rattle.search.proofs.ChoiceLaws.{listOf-only, listOf-members, listOf-has, in-both, in-without-cases, with-cases, with-length, contains-with}
@@ -30,26 +30,26 @@ pub record Share (col : Column) (s passed : Choice) (n : ℕ) (l : List ℕ) : T
   pub part : Contains (isIn l) (col .fact) share
 
 -- Every list that is looked for and contains the candidate has one; and the candidate is in `passed`.
-pub record Shared (col : Column) (s out want passed : Choice) (n : ℕ) : Type 0 where
-  pub shares : (l : List ℕ) → Sought col out want l → Contains (isIn l) (col .fact) s → Share col s passed n l
+pub record Shared (col : Column) (rs : Courses) (s out want passed : Choice) (n : ℕ) : Type 0 where
+  pub shares : (l : List ℕ) → Sought col rs out want l → Contains (isIn l) (col .fact) s → Share col s passed n l
   pub candidate : (code : ℕ) → code < perFact → inChoice s code ≡ true → inChoice passed code ≡ true
 
-module _ (col : Column) (s out want : Choice) where
-  pub shared-none : Shared col s out want s 0
+module _ (col : Column) (rs : Courses) (s out want : Choice) where
+  pub shared-none : Shared col rs s out want s 0
   shared-none = record {
     shares = λ l sought part. record { share = s; within = λ code h t. t; size = omega arith; part = part };
     candidate = λ code h t. t;
   }
 
   -- One more set, lacking to all that was passed: each list has a repair of it.
-  pub shared-more : (passed q : Choice) (n : ℕ) → Shared col s out want passed n → Lacks col passed out want q
-      → Shared col s out want (bothOf passed q) (n + 1)
+  pub shared-more : (passed q : Choice) (n : ℕ) → Shared col rs s out want passed n → Lacks col rs passed out want q
+      → Shared col rs s out want (bothOf passed q) (n + 1)
   shared-more passed q n before lacks = record {
     shares = more;
     candidate = λ code h t. in-both passed q code ∙ or-left (inChoice passed code) (inChoice q code) (before .candidate code h t);
   }
     where
-      more : (l : List ℕ) → Sought col out want l → Contains (isIn l) (col .fact) s → Share col s (bothOf passed q) (n + 1) l
+      more : (l : List ℕ) → Sought col rs out want l → Contains (isIn l) (col .fact) s → Share col s (bothOf passed q) (n + 1) l
       more l sought part = record {
         share = withRepair (w .share) code;
         within = λ c hc t. in-both passed q c ∙ pick c hc (with-cases (w .share) code c h hc t);
@@ -77,21 +77,21 @@ module _ (col : Column) (s out want : Choice) where
           pick c hc (inr t) = or-left (inChoice passed c) (inChoice q c) (w .within c hc t)
 
   -- A list that has its share and no room for more has nothing beside what was passed.
-  within-passed : (passed : Choice) (n left : ℕ) → left ≤ n → Shared col s out want passed n → (l : List ℕ)
-      → Among col s out want (length (listOf (col .fact) s) + left) l → (m : ℕ) → isIn l m ≡ true → isIn (listOf (col .fact) passed) m ≡ true
+  within-passed : (passed : Choice) (n left : ℕ) → left ≤ n → Shared col rs s out want passed n → (l : List ℕ)
+      → Among col rs s out want (length (listOf (col .fact) s) + left) l → (m : ℕ) → isIn l m ≡ true → isIn (listOf (col .fact) passed) m ≡ true
   within-passed passed n left enough all l a m h =
       let w = all .shares l (a .sought) (a .contains) in
       let only : isIn (listOf (col .fact) (w .share)) m ≡ true =
-      no-more col (w .share) l (a .sought .keeps) (w .part) (omega (arith, a .short, w .size)) m h in
+      no-more col rs (w .share) l (a .sought .keeps) (w .part) (omega (arith, a .short, w .size)) m h in
       let number : codeNumber (col .fact) (m % perFact) ≡ m = omega (arith, a .sought .keeps .own m h) in
       let code : inChoice (w .share) (m % perFact) ≡ true =
       listOf-only (col .fact) (w .share) (m % perFact) (subst (λ k. isIn (listOf (col .fact) (w .share)) k ≡ true) (sym number) only) in
       subst (λ k. isIn (listOf (col .fact) passed) k ≡ true) number
       (listOf-has (col .fact) passed (m % perFact) (omega arith) (w .within (m % perFact) (omega arith) code))
 
-  module _ (passed : Choice) (n left : ℕ) (enough : left ≤ n) (all : Shared col s out want passed n) where
+  module _ (passed : Choice) (n left : ℕ) (enough : left ≤ n) (all : Shared col rs s out want passed n) where
     -- All that was passed is not enough: there is no list.
-    pub shared-short : Complete col passed want false → (l : List ℕ) → Among col s out want (length (listOf (col .fact) s) + left) l → ⊥
+    pub shared-short : Complete col rs passed want false → (l : List ℕ) → Among col rs s out want (length (listOf (col .fact) s) + left) l → ⊥
     shared-short short l a = short right (m .0, m .1, in-passed, m .2)
       where
         m : (code : ℕ) × (code < perFact) × (inChoice want code ≡ true) × (isIn l (codeNumber (col .fact) code) ≡ true)
@@ -100,14 +100,14 @@ module _ (col : Column) (s out want : Choice) where
         in-passed : inChoice passed (m .0) ≡ true
         in-passed = listOf-only (col .fact) passed (m .0) (within-passed passed n left enough all l a (codeNumber (col .fact) (m .0)) (m .3))
 
-        right : AllRight (repaired (cellsIn col) (numbersIn (col .fact) passed)) (coursesIn col) (col .fact)
+        right : AllRight (repaired (cellsIn col) (numbersIn (col .fact) passed)) rs (col .fact)
         right =
-            right-more (cellsIn col) (coursesIn col) (col .fact) (isIn l) (numbersIn (col .fact) passed)
+            right-more (cellsIn col) rs (col .fact) (isIn l) (numbersIn (col .fact) passed)
             (λ k own h. sym (listOf-members (col .fact) passed k) ∙ within-passed passed n left enough all l a k h) (a .sought .keeps .right)
 
     -- Nothing beside what was passed: the rest is out.
     shared-out : (every : Choice) → CodesBelow perFact every → Apart s out
-        → OutFor col s out want (length (listOf (col .fact) s) + left) (bothOf out (withoutThose every passed))
+        → OutFor col rs s out want (length (listOf (col .fact) s) + left) (bothOf out (withoutThose every passed))
     shared-out every whole apart = record {
       before = λ code h t. in-both out (withoutThose every passed) code ∙ or-left (inChoice out code) _ t;
       apart = λ code h t.
@@ -128,18 +128,18 @@ module _ (col : Column) (s out want : Choice) where
             pick (inl o) = absurd (apart o)
             pick (inr r) = in-without-cases every passed code r .1
 
-  pub shared-reached : (passed every : Choice) (n left : ℕ) → left ≤ n → Shared col s out want passed n → CodesBelow perFact every → Apart s out
-      → (t : Bool) → Complete col passed want t
-      → Reached col s out want (length (listOf (col .fact) s) + left) t (bothOf out (withoutThose every passed))
+  pub shared-reached : (passed every : Choice) (n left : ℕ) → left ≤ n → Shared col rs s out want passed n → CodesBelow perFact every → Apart s out
+      → (t : Bool) → Complete col rs passed want t
+      → Reached col rs s out want (length (listOf (col .fact) s) + left) t (bothOf out (withoutThose every passed))
   shared-reached passed every n left enough all whole apart true complete = shared-out passed n left enough all every whole apart
   shared-reached passed every n left enough all whole apart false short = shared-short passed n left enough all short
 
   -- Nothing is left of what is lacking: there is no list.
-  pub none-left : (passed q : Choice) (k : ℕ) → Lacks col passed out want q → NextIn q 0 perFact → (l : List ℕ) → Among col s out want k l → ⊥
+  pub none-left : (passed q : Choice) (k : ℕ) → Lacks col rs passed out want q → NextIn q 0 perFact → (l : List ℕ) → Among col rs s out want k l → ⊥
   none-left passed q k lacks next l a =
       let m = lacks .meets l (a .sought) in
       true≢false (sym (m .2) ∙ next .absent (m .0) (m .1) (omega arith))
 
   -- Nothing more is out.
-  pub out-same : (k : ℕ) → Apart s out → OutFor col s out want k out
+  pub out-same : (k : ℕ) → Apart s out → OutFor col rs s out want k out
   out-same k apart = record { before = λ code h t. t; apart = apart; misses = λ l a. a .sought .misses }

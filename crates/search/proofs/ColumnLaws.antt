@@ -1,15 +1,16 @@
 -- Laws of one fact's column with a candidate applied: what the masks say of its cells, by the kind of repair. Assumes nothing.
 use mathlib.Core.Bool.{Bool, true, false, not, _&&_, _||_, false≢true}
+use mathlib.Core.List.{List}
 use mathlib.Core.Path.{_≡_, refl, sym, ap, subst, _∙_}
-use Prim.Native.Nat.{ℕ, _+_, _<_, _≤_}
+use Prim.Native.Nat.{ℕ, _+_, _*_, _<_, _≤_}
 use native.Mathlib.Omega.{arith}
-use lib.ListN.{getD}
+use lib.ListN.{length, getD}
 use borrow.Author.Count.{below-none, below-more}
 use borrow.Author.Tests.{lt-ltb, eq-eqb, not-true}
 use Rattle.facts.specs.Sets.{has, joined, removed}
 use Rattle.facts.proofs.Laws.{has-joined, has-removed}
-use Rattle.table.specs.Sizes.{maxActions, kinds}
-use Rattle.table.specs.Strips.{Right, stateAt}
+use Rattle.table.specs.Sizes.{maxActions, maxSteps, kinds}
+use Rattle.table.specs.Strips.{Course, Right, stateAt}
 use Rattle.table.specs.Repairs.{dropDelete, addEffect, dropNeed, chosen}
 use Rattle.table.proofs.FlagLaws.{and-left, and-right, and-both, is-false}
 use Rattle.table.proofs.RepairNumbers.{fact-back, kind-back, action-back}
@@ -55,50 +56,54 @@ module _ (col : Column) (s : Choice) (a : ℕ) (ha : a < maxActions) where
 
 -- ---- the walk along the run
 
--- A step is an action that a mask of repairs has room for.
-pub step-lt : (col : Column) → ColumnFormed col → (i : ℕ) → i < col .count → getD (col .steps) i 0 < maxActions
-step-lt col formed i h = omega (arith, formed .steps-below i h)
+-- A step of a run, where it stands.
+module _ (col : Column) (steps : List ℕ) (formed : ColumnFormed col steps) (run : ℕ) (low : run < col .runs) (i : ℕ)
+    (inside : i < courseIn col steps run .count) where
+  pub step-inside : maxSteps * run + i < length steps
+  step-inside = omega (arith, formed .runs-high, formed .steps-length, formed .run run low .count-high)
+
+  pub step-read : getD steps (maxSteps * run + i) 0 < maxActions
+  unfolding courseIn
+  step-read = omega (arith, formed .run run low .steps-below i inside, formed .actions-high)
 
 -- Before place i: the state of the fact there.
-pub record Walked (col : Column) (s : Choice) (present : Bool) (i : ℕ) : Type 0 where
-  pub within : i ≤ col .count
-  pub state : present ≡ stateAt (cellsWith col s) (courseIn col) i (col .fact)
+pub record Walked (col : Column) (r : Course) (s : Choice) (present : Bool) (i : ℕ) : Type 0 where
+  pub within : i ≤ r .count
+  pub state : present ≡ stateAt (cellsWith col s) r i (col .fact)
 
 -- The fact is missing at no place before i.
-abbrev pub NoneBefore : Column → Choice → ℕ → Type 0
-NoneBefore col s i = (j : ℕ) → j < i → Missing col s j → ⊥
+abbrev pub NoneBefore : Column → Course → Choice → ℕ → Type 0
+NoneBefore col r s i = (j : ℕ) → j < i → Missing col r s j → ⊥
 
 -- A flag that tells whether the fact is missing at place i.
-pub record Tells (col : Column) (s : Choice) (i : ℕ) (missing : Bool) : Type 0 where
-  pub there : missing ≡ true → Missing col s i
-  pub not-there : missing ≡ false → Missing col s i → ⊥
+pub record Tells (col : Column) (r : Course) (s : Choice) (i : ℕ) (missing : Bool) : Type 0 where
+  pub there : missing ≡ true → Missing col r s i
+  pub not-there : missing ≡ false → Missing col r s i → ⊥
 
-module _ (col : Column) (s : Choice) where
-  pub walked-none : Walked col s (col .start) 0
-  unfolding courseIn
-  walked-none = record { within = omega arith; state = sym (stateAt-first (cellsWith col s) (courseIn col) (col .fact)) }
+module _ (col : Column) (r : Course) (s : Choice) where
+  pub walked-none : (present : Bool) → present ≡ r .start (col .fact) → Walked col r s present 0
+  walked-none present same = record { within = omega arith; state = same ∙ sym (stateAt-first (cellsWith col s) r (col .fact)) }
 
-  pub none-first : NoneBefore col s 0
-  none-first = below-none (λ j. Missing col s j → ⊥)
+  pub none-first : NoneBefore col r s 0
+  none-first = below-none (λ j. Missing col r s j → ⊥)
 
-  pub none-next : (i : ℕ) (missing : Bool) → NoneBefore col s i → Tells col s i missing → missing ≡ false → NoneBefore col s (i + 1)
-  none-next i missing none tells h = below-more (λ j. Missing col s j → ⊥) i none (tells .not-there h)
+  pub none-next : (i : ℕ) (missing : Bool) → NoneBefore col r s i → Tells col r s i missing → missing ≡ false → NoneBefore col r s (i + 1)
+  none-next i missing none tells h = below-more (λ j. Missing col r s j → ⊥) i none (tells .not-there h)
 
   -- Missing nowhere, the goal's place included: the fact is right.
-  pub none-right : NoneBefore col s (col .count + 1) → Right (cellsWith col s) (courseIn col) (col .fact)
-  unfolding courseIn
+  pub none-right : NoneBefore col r s (r .count + 1) → Right (cellsWith col s) r (col .fact)
   none-right none = record {
     needed = λ j inside n. present j (λ e. none j (omega arith) (record { needed = by-step inside n; absent = e }));
-    wanted = λ g. present (col .count) (λ e. none (col .count) (omega arith) (record { needed = by-goal refl g; absent = e }));
+    wanted = λ g. present (r .count) (λ e. none (r .count) (omega arith) (record { needed = by-goal refl g; absent = e }));
   }
     where
-      present : (j : ℕ) → (stateAt (cellsWith col s) (courseIn col) j (col .fact) ≡ false → ⊥)
-          → stateAt (cellsWith col s) (courseIn col) j (col .fact) ≡ true
-      present j = not-false-true (stateAt (cellsWith col s) (courseIn col) j (col .fact))
+      present : (j : ℕ) → (stateAt (cellsWith col s) r j (col .fact) ≡ false → ⊥)
+          → stateAt (cellsWith col s) r j (col .fact) ≡ true
+      present j = not-false-true (stateAt (cellsWith col s) r j (col .fact))
 
-  module _ (present : Bool) (i : ℕ) (walked : Walked col s present i) where
+  module _ (present : Bool) (i : ℕ) (walked : Walked col r s present i) where
     -- needed here, as the flag says, while the fact is absent
-    tells : (b : Bool) → (b ≡ true → NeededAt col s i) → (NeededAt col s i → b ≡ true) → Tells col s i (b && not present)
+    tells : (b : Bool) → (b ≡ true → NeededAt col r s i) → (NeededAt col r s i → b ≡ true) → Tells col r s i (b && not present)
     tells b needed holds = record {
       there = λ h. record {
         needed = needed (and-left b (not present) h);
@@ -108,52 +113,52 @@ module _ (col : Column) (s : Choice) where
           false≢true (sym h ∙ and-both b (not present) (holds (m .needed)) (ap not (walked .state ∙ m .absent)));
     }
 
-    module _ (inside : i < col .count) where
-      pub tells-step : (need : Bool) → need ≡ cellsWith col s .needs (courseIn col .step i) (col .fact) → Tells col s i (need && not present)
+    module _ (inside : i < r .count) where
+      pub tells-step : (need : Bool) → need ≡ cellsWith col s .needs (r .step i) (col .fact) → Tells col r s i (need && not present)
       tells-step need same = tells need (λ h. by-step inside (sym same ∙ h)) back
         where
-          back : NeededAt col s i → need ≡ true
+          back : NeededAt col r s i → need ≡ true
           back (by-step _ n) = same ∙ n
           back (by-goal e _) = absurd (omega arith)
 
-      pub walked-more : (delete add : Bool) → delete ≡ cellsWith col s .deletes (courseIn col .step i) (col .fact)
-          → add ≡ cellsWith col s .adds (courseIn col .step i) (col .fact) → Walked col s (present && not delete || add) (i + 1)
+      pub walked-more : (delete add : Bool) → delete ≡ cellsWith col s .deletes (r .step i) (col .fact)
+          → add ≡ cellsWith col s .adds (r .step i) (col .fact) → Walked col r s (present && not delete || add) (i + 1)
       walked-more delete add d a = record {
         within = omega arith;
-        state = rw (walked .state, d, a) (sym (stateAt-next (cellsWith col s) (courseIn col) i (col .fact)));
+        state = rw (walked .state, d, a) (sym (stateAt-next (cellsWith col s) r i (col .fact)));
       }
 
-    pub tells-goal : i ≡ col .count → Tells col s i (col .goal && not present)
-    tells-goal last = tells (col .goal) (by-goal last) back
+    pub tells-goal : (goal : Bool) → goal ≡ r .goal (col .fact) → i ≡ r .count → Tells col r s i (goal && not present)
+    tells-goal goal same last = tells goal (λ h. by-goal last (sym same ∙ h)) back
       where
-        back : NeededAt col s i → col .goal ≡ true
+        back : NeededAt col r s i → goal ≡ true
         back (by-step h _) = absurd (omega arith)
-        back (by-goal _ g) = g
+        back (by-goal _ g) = same ∙ g
 
 -- ---- the narrowest place so far
 
 -- None before place i, and then more than one repair counts as left; or one where the fact is missing.
-pub data PlaceSo (col : Column) (s : Choice) (best : Place) (i : ℕ) : Type 0 where
-  no-place : best .at ≡ col .count + 1 → 1 < best .left → NoneBefore col s i → PlaceSo col s best i
-  a-place : best .at ≤ col .count → Missing col s (best .at) → PlaceSo col s best i
+pub data PlaceSo (col : Column) (r : Course) (s : Choice) (best : Place) (i : ℕ) : Type 0 where
+  no-place : best .at ≡ r .count + 1 → 1 < best .left → NoneBefore col r s i → PlaceSo col r s best i
+  a-place : best .at ≤ r .count → Missing col r s (best .at) → PlaceSo col r s best i
 
-module _ (col : Column) (s : Choice) where
-  pub place-next : (best r : Place) (i : ℕ) (missing : Bool) → i ≤ col .count → Tells col s i missing → PlaceSo col s best i
-      → Noted (col .count) best i missing r → PlaceSo col s r (i + 1)
-  place-next best r i missing within tells so (moves h e) =
-      let at : r .at ≡ i = e in
-      a-place (omega arith) (subst (Missing col s) (sym at) (tells .there h))
-  place-next best r i missing within tells (a-place low m) (stays e chosen) =
-      subst (λ p. PlaceSo col s p (i + 1)) (sym e) (a-place low m)
-  place-next best r i missing within tells (no-place none more clear) (stays e chosen) =
-      subst (λ p. PlaceSo col s p (i + 1)) (sym e)
-      (no-place none more (none-next col s i missing clear tells (is-false missing (λ h. absurd (omega (arith, chosen h))))))
+module _ (col : Column) (r : Course) (s : Choice) where
+  pub place-next : (best next : Place) (i : ℕ) (missing : Bool) → i ≤ r .count → Tells col r s i missing → PlaceSo col r s best i
+      → Noted (r .count) best i missing next → PlaceSo col r s next (i + 1)
+  place-next best next i missing within tells so (moves h e) =
+      let at : next .at ≡ i = e in
+      a-place (omega arith) (subst (Missing col r s) (sym at) (tells .there h))
+  place-next best next i missing within tells (a-place low m) (stays e chosen) =
+      subst (λ p. PlaceSo col r s p (i + 1)) (sym e) (a-place low m)
+  place-next best next i missing within tells (no-place none more clear) (stays e chosen) =
+      subst (λ p. PlaceSo col r s p (i + 1)) (sym e)
+      (no-place none more (none-next col r s i missing clear tells (is-false missing (λ h. absurd (omega (arith, chosen h))))))
 
   -- Few repairs left: there is a place. All places passed: there is one, or the fact is right.
-  pub place-few : (best : Place) (i : ℕ) → PlaceSo col s best i → best .left ≤ 1 → Gap col s (best .at)
+  pub place-few : (best : Place) (i : ℕ) → PlaceSo col r s best i → best .left ≤ 1 → Gap col r s (best .at)
   place-few best i (no-place none more clear) few = absurd (omega arith)
   place-few best i (a-place low m) few = missing-at low m
 
-  pub place-end : (best : Place) (i : ℕ) → i ≡ col .count + 1 → PlaceSo col s best i → Gap col s (best .at)
-  place-end best i all (no-place none more clear) = nowhere none (none-right col s (subst (NoneBefore col s) all clear))
+  pub place-end : (best : Place) (i : ℕ) → i ≡ r .count + 1 → PlaceSo col r s best i → Gap col r s (best .at)
+  place-end best i all (no-place none more clear) = nowhere none (none-right col r s (subst (NoneBefore col r s) all clear))
   place-end best i all (a-place low m) = missing-at low m

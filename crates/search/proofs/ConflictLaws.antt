@@ -13,7 +13,7 @@ use borrow.Author.Tests.{eq-eqb, eqb-true, not-true}
 use Rattle.facts.specs.Sets.{width, has, joined, only}
 use Rattle.facts.proofs.Laws.{has-empty, has-joined, has-only}
 use Rattle.table.specs.Sizes.{maxActions, kinds, perFact}
-use Rattle.table.specs.Strips.{Cells, Course, stateAt, Right}
+use Rattle.table.specs.Strips.{Cells, Course, one, stateAt, Right}
 use Rattle.table.specs.Order.{isIn}
 use Rattle.table.specs.Repairs.{byKind, numberOf, dropDelete, addEffect, dropNeed, repairable, chosen, repaired, permits}
 use Rattle.table.proofs.FlagLaws.{or-cases, or-left, or-right, and-left, and-right, and-both, is-false, by-order}
@@ -23,7 +23,7 @@ use Rattle.table.proofs.RunLaws.{stateAt-first, stateAt-next}
 use Rattle.search.specs.declared.Column.{Column}
 use Rattle.search.specs.declared.Choice.{Choice}
 use Rattle.search.specs.Choices.{inChoice, codeOf, codeKind, codeAction, codeNumber, numbersIn, Apart}
-use Rattle.search.specs.Columns.{cellsIn, courseIn, KeepsIn, ColumnFormed}
+use Rattle.search.specs.Columns.{cellsIn, KeepsIn, RunFormed}
 use Rattle.search.specs.Gaps.{LastDelete, Named, need-at, that-delete, add-between, ConflictAt, ActionsOf}
 use Rattle.search.specs.Searching.{cellsWith, NeededAt, by-step, by-goal, Missing, Allowed}
 use Rattle.search.specs.Trying.{maskIn}
@@ -33,59 +33,59 @@ use Rattle.search.proofs.ColumnLaws.{chosen-has, inChoice-has}
 -- ---- looking back
 
 -- No step from place i on and before j deletes the fact.
-abbrev pub NoDelete : Column → Choice → ℕ → ℕ → Type 0
-NoDelete col s j i = (k : ℕ) → i ≤ k → k < j → cellsWith col s .deletes (courseIn col .step k) (col .fact) ≡ false
+abbrev pub NoDelete : Column → Course → Choice → ℕ → ℕ → Type 0
+NoDelete col r s j i = (k : ℕ) → i ≤ k → k < j → cellsWith col s .deletes (r .step k) (col .fact) ≡ false
 
-pub noDelete-none : (col : Column) (s : Choice) (j : ℕ) → NoDelete col s j j
-noDelete-none col s j k low high = absurd (omega arith)
+pub noDelete-none : (col : Column) (r : Course) (s : Choice) (j : ℕ) → NoDelete col r s j j
+noDelete-none col r s j k low high = absurd (omega arith)
 
-pub noDelete-more : (col : Column) (s : Choice) (j i : ℕ) → NoDelete col s j i
-    → cellsWith col s .deletes (courseIn col .step (i - 1)) (col .fact) ≡ false → NoDelete col s j (i - 1)
-noDelete-more col s j i since here k low high = ⊎-elim
-    (λ e. subst (λ (p : ℕ). cellsWith col s .deletes (courseIn col .step p) (col .fact) ≡ false) e here)
+pub noDelete-more : (col : Column) (r : Course) (s : Choice) (j i : ℕ) → NoDelete col r s j i
+    → cellsWith col s .deletes (r .step (i - 1)) (col .fact) ≡ false → NoDelete col r s j (i - 1)
+noDelete-more col r s j i since here k low high = ⊎-elim
+    (λ e. subst (λ (p : ℕ). cellsWith col s .deletes (r .step p) (col .fact) ≡ false) e here)
     (λ l. since k (omega arith) high) (eq-or-lt-of-le low)
 
 -- Looking back has one end.
-last-later : (col : Column) (s : Choice) (j i k : ℕ) → LastDelete col s j i → LastDelete col s j k → k ≤ i
-last-later col s j i k here there = by-order i k
+last-later : (col : Column) (r : Course) (s : Choice) (j i k : ℕ) → LastDelete col r s j i → LastDelete col r s j k → k ≤ i
+last-later col r s j i k here there = by-order i k
     (λ h. absurd (true≢false (sym (there .deleted (omega arith)) ∙ here .since (k - 1) (omega arith) (omega (arith, there .within)))))
     (λ h. h)
 
-last-unique : (col : Column) (s : Choice) (j i k : ℕ) → LastDelete col s j i → LastDelete col s j k → i ≡ k
-last-unique col s j i k here there = omega (arith, last-later col s j i k here there, last-later col s j k i there here)
+last-unique : (col : Column) (r : Course) (s : Choice) (j i k : ℕ) → LastDelete col r s j i → LastDelete col r s j k → i ≡ k
+last-unique col r s j i k here there = omega (arith, last-later col r s j i k here there, last-later col r s j k i there here)
 
 -- ---- gathering actions
 
-module _ (col : Column) (start : ℕ) where
-  pub actions-none : ActionsOf col start start 0
+module _ (step : ℕ → ℕ) (start : ℕ) where
+  pub actions-none : ActionsOf step start start 0
   actions-none = record {
     each = λ i low high. absurd (omega arith);
     only = λ a h. absurd (false≢true (sym (has-empty a) ∙ h));
   }
 
-  pub actions-more : (i m : ℕ) → start ≤ i → courseIn col .step i < width → ActionsOf col start i m
-      → ActionsOf col start (i + 1) (joined m (only (courseIn col .step i)))
+  pub actions-more : (i m : ℕ) → start ≤ i → step i < width → ActionsOf step start i m
+      → ActionsOf step start (i + 1) (joined m (only (step i)))
   actions-more i m low room found = record { each = each; only = gathered }
     where
       a : ℕ
-      a = courseIn col .step i
+      a = step i
 
       both : (b : ℕ) → has (joined m (only a)) b ≡ (has m b || eqb b a)
       both b = has-joined m (only a) b ∙ ap (λ (t : Bool). has m b || t) (has-only a b room)
 
-      each : (k : ℕ) → start ≤ k → k < i + 1 → has (joined m (only a)) (courseIn col .step k) ≡ true
-      each k from to = both (courseIn col .step k) ∙ ⊎-elim
-          (λ e. or-right (has m (courseIn col .step k)) _ (eq-eqb _ a (ap (λ p. courseIn col .step p) e)))
-          (λ l. or-left (has m (courseIn col .step k)) _ (found .each k from l))
+      each : (k : ℕ) → start ≤ k → k < i + 1 → has (joined m (only a)) (step k) ≡ true
+      each k from to = both (step k) ∙ ⊎-elim
+          (λ e. or-right (has m (step k)) _ (eq-eqb _ a (ap step e)))
+          (λ l. or-left (has m (step k)) _ (found .each k from l))
           (eq-or-lt-of-le (le-of-suc-le-suc (subst (λ (n : ℕ). k < n) (add-one i) to)))
 
-      gathered : (b : ℕ) → has (joined m (only a)) b ≡ true → (k : ℕ) × (start ≤ k) × (k < i + 1) × (courseIn col .step k ≡ b)
+      gathered : (b : ℕ) → has (joined m (only a)) b ≡ true → (k : ℕ) × (start ≤ k) × (k < i + 1) × (step k ≡ b)
       gathered b h = ⊎-elim
           (λ old. let w = found .only b old in (w .0, w .1, omega (arith, w .2), w .3))
           (λ new. (i, low, omega arith, sym (eqb-true b a new)))
           (or-cases (has m b) (eqb b a) (sym (both b) ∙ h))
 
-  pub actions-end : (i end m : ℕ) → end ≤ i → i ≤ max start end → ActionsOf col start i m → ActionsOf col start end m
+  pub actions-end : (i end m : ℕ) → end ≤ i → i ≤ max start end → ActionsOf step start i m → ActionsOf step start end m
   actions-end i end m low high found = record {
     each = λ k from to. found .each k from (omega arith);
     only = λ a h. let w = found .only a h in (w .0, w .1, omega (arith, w .1, w .2), w .3);
@@ -125,101 +125,100 @@ module _ (c : Cells) (r : Course) (f : ℕ) where
 abbrev pub lowPlace : ℕ → ℕ → ℕ → ℕ
 lowPlace i j k = byKind k (i - 1) (i - 1) j
 
-abbrev pub highPlace : Column → ℕ → ℕ → ℕ → ℕ
-highPlace col i j k = byKind k i j (min (j + 1) (col .count))
+abbrev pub highPlace : Course → ℕ → ℕ → ℕ → ℕ
+highPlace r i j k = byKind k i j (min (j + 1) (r .count))
 
-needed-within : (col : Column) (s : Choice) (j : ℕ) → NeededAt col s j → j ≤ col .count
-needed-within col s j (by-step h _) = omega arith
-needed-within col s j (by-goal e _) = omega arith
+needed-within : (col : Column) (r : Course) (s : Choice) (j : ℕ) → NeededAt col r s j → j ≤ r .count
+needed-within col r s j (by-step h _) = omega arith
+needed-within col r s j (by-goal e _) = omega arith
 
-pub missing-within : (col : Column) (s : Choice) (j : ℕ) → Missing col s j → j ≤ col .count
-missing-within col s j missing = needed-within col s j (missing .needed)
+pub missing-within : (col : Column) (r : Course) (s : Choice) (j : ℕ) → Missing col r s j → j ≤ r .count
+missing-within col r s j missing = needed-within col r s j (missing .needed)
 
-module _ (col : Column) (s : Choice) (j i : ℕ) (missing : Missing col s j) (back : LastDelete col s j i) where
+module _ (col : Column) (r : Course) (s : Choice) (j i : ℕ) (missing : Missing col r s j) (back : LastDelete col r s j i) where
   -- present at some place after the last delete, the fact would be present at j
-  absent-since : (m : ℕ) → i ≤ m → m ≤ j → stateAt (cellsWith col s) (courseIn col) m (col .fact) ≡ false
+  absent-since : (m : ℕ) → i ≤ m → m ≤ j → stateAt (cellsWith col s) r m (col .fact) ≡ false
   absent-since m low high = is-false _ (λ h.
       true≢false
-      (sym (carries (cellsWith col s) (courseIn col) (col .fact) true m j high h
-      (λ k lo hi p. next-kept (cellsWith col s) (courseIn col) (col .fact) k p (back .since k (omega arith) hi)))
+      (sym (carries (cellsWith col s) r (col .fact) true m j high h
+      (λ k lo hi p. next-kept (cellsWith col s) r (col .fact) k p (back .since k (omega arith) hi)))
       ∙ missing .absent))
 
-  no-adds : (k : ℕ) → i - 1 ≤ k → k < j → cellsWith col s .adds (courseIn col .step k) (col .fact) ≡ false
+  no-adds : (k : ℕ) → i - 1 ≤ k → k < j → cellsWith col s .adds (r .step k) (col .fact) ≡ false
   no-adds k low high = is-false _ (λ h.
       true≢false
-      (sym (next-added (cellsWith col s) (courseIn col) (col .fact) k h)
+      (sym (next-added (cellsWith col s) r (col .fact) k h)
       ∙ absent-since (k + 1) (omega arith) (omega arith)))
 
   -- with the candidate applied, each place of the conflict still has the cell that its repair changes
-  still : (k p : ℕ) → k < kinds → lowPlace i j k ≤ p → p < highPlace col i j k
-      → repairable (cellsWith col s) (col .fact) k (courseIn col .step p) ≡ true
+  still : (k p : ℕ) → k < kinds → lowPlace i j k ≤ p → p < highPlace r i j k
+      → repairable (cellsWith col s) (col .fact) k (r .step p) ≡ true
   still zero p h low high =
       let e : i - 1 ≡ p = omega arith in
-      repairable-delete (cellsWith col s) (col .fact) (courseIn col .step p)
-      ∙ subst (λ (n : ℕ). cellsWith col s .deletes (courseIn col .step n) (col .fact) ≡ true) e (back .deleted (omega arith))
+      repairable-delete (cellsWith col s) (col .fact) (r .step p)
+      ∙ subst (λ (n : ℕ). cellsWith col s .deletes (r .step n) (col .fact) ≡ true) e (back .deleted (omega arith))
   still (suc zero) p h low high =
-      repairable-add (cellsWith col s) (col .fact) (courseIn col .step p) ∙ ap not (no-adds p low high)
+      repairable-add (cellsWith col s) (col .fact) (r .step p) ∙ ap not (no-adds p low high)
   still (suc (suc zero)) p h low high =
-      repairable-need (cellsWith col s) (col .fact) (courseIn col .step p) ∙ need (missing .needed)
+      repairable-need (cellsWith col s) (col .fact) (r .step p) ∙ need (missing .needed)
     where
-      need : NeededAt col s j → cellsWith col s .needs (courseIn col .step p) (col .fact) ≡ true
+      need : NeededAt col r s j → cellsWith col s .needs (r .step p) (col .fact) ≡ true
       need (by-step inside n) =
           let e : j ≡ p = omega arith in
-          subst (λ (m : ℕ). cellsWith col s .needs (courseIn col .step m) (col .fact) ≡ true) e n
+          subst (λ (m : ℕ). cellsWith col s .needs (r .step m) (col .fact) ≡ true) e n
       need (by-goal e g) = absurd (omega arith)
   still (suc (suc (suc k))) p h low high = absurd (omega arith)
 
-module _ (col : Column) (s : Choice) (j i : ℕ) (formed : ColumnFormed col) (missing : Missing col s j) (back : LastDelete col s j i)
-    (q : Choice) (parts : (k : ℕ) → k < kinds → ActionsOf col (lowPlace i j k) (highPlace col i j k) (maskIn k q)) where
-  high-within : (k : ℕ) → k < kinds → highPlace col i j k ≤ col .count
-  high-within zero h = omega (arith, missing-within col s j missing, back .within)
-  high-within (suc zero) h = missing-within col s j missing
+module _ (col : Column) (r : Course) (s : Choice) (j i : ℕ) (actions : col .actions ≤ maxActions) (formed : RunFormed col r) (missing : Missing col r s j) (back : LastDelete col r s j i)
+    (q : Choice) (parts : (k : ℕ) → k < kinds → ActionsOf (r .step) (lowPlace i j k) (highPlace r i j k) (maskIn k q)) where
+  high-within : (k : ℕ) → k < kinds → highPlace r i j k ≤ r .count
+  high-within zero h = omega (arith, missing-within col r s j missing, back .within)
+  high-within (suc zero) h = missing-within col r s j missing
   high-within (suc (suc zero)) h = omega arith
   high-within (suc (suc (suc k))) h = absurd (omega arith)
 
   -- at a place of the conflict: an action of the task, whose cell a repair changes that is not in the candidate
-  module _ (k p : ℕ) (hk : k < kinds) (low : lowPlace i j k ≤ p) (high : p < highPlace col i j k) where
-    place-action : courseIn col .step p < col .actions
-    unfolding courseIn
+  module _ (k p : ℕ) (hk : k < kinds) (low : lowPlace i j k ≤ p) (high : p < highPlace r i j k) where
+    place-action : r .step p < col .actions
     place-action = formed .steps-below p (lt-of-lt-of-le high (high-within k hk))
 
     own : col .fact < cellsIn col .facts
     unfolding cellsIn
     own = omega arith
 
-    place-inside : courseIn col .step p < cellsIn col .actions
+    place-inside : r .step p < cellsIn col .actions
     unfolding cellsIn
     place-inside = place-action
 
-    place-low : courseIn col .step p < maxActions
-    place-low = omega (arith, place-action, formed .actions-high)
+    place-low : r .step p < maxActions
+    place-low = omega (arith, place-action, actions)
 
-    place-cell : (repairable (cellsIn col) (col .fact) k (courseIn col .step p)
-        && not (chosen (numbersIn (col .fact) s) (col .fact) k (courseIn col .step p))) ≡ true
+    place-cell : (repairable (cellsIn col) (col .fact) k (r .step p)
+        && not (chosen (numbersIn (col .fact) s) (col .fact) k (r .step p))) ≡ true
     place-cell =
-        sym (repaired-repairable (cellsIn col) (numbersIn (col .fact) s) (col .fact) k (courseIn col .step p) hk)
-        ∙ still col s j i missing back k p hk low high
+        sym (repaired-repairable (cellsIn col) (numbersIn (col .fact) s) (col .fact) k (r .step p) hk)
+        ∙ still col r s j i missing back k p hk low high
 
-    place-fresh : has (maskIn k s) (courseIn col .step p) ≡ false
+    place-fresh : has (maskIn k s) (r .step p) ≡ false
     place-fresh =
-        sym (chosen-has (col .fact) s k (courseIn col .step p) hk place-low)
-        ∙ not-true (chosen (numbersIn (col .fact) s) (col .fact) k (courseIn col .step p))
-        (and-right (repairable (cellsIn col) (col .fact) k (courseIn col .step p)) _ place-cell)
+        sym (chosen-has (col .fact) s k (r .step p) hk place-low)
+        ∙ not-true (chosen (numbersIn (col .fact) s) (col .fact) k (r .step p))
+        (and-right (repairable (cellsIn col) (col .fact) k (r .step p)) _ place-cell)
 
-    place-repairable : repairable (cellsIn col) (col .fact) k (courseIn col .step p) ≡ true
+    place-repairable : repairable (cellsIn col) (col .fact) k (r .step p) ≡ true
     place-repairable =
-        and-left (repairable (cellsIn col) (col .fact) k (courseIn col .step p))
-        (not (chosen (numbersIn (col .fact) s) (col .fact) k (courseIn col .step p))) place-cell
+        and-left (repairable (cellsIn col) (col .fact) k (r .step p))
+        (not (chosen (numbersIn (col .fact) s) (col .fact) k (r .step p))) place-cell
 
-    place-offered : inChoice q (codeOf k (courseIn col .step p)) ≡ true
-    place-offered = inChoice-has q k (courseIn col .step p) place-low ∙ parts k hk .each p low high
+    place-offered : inChoice q (codeOf k (r .step p)) ≡ true
+    place-offered = inChoice-has q k (r .step p) place-low ∙ parts k hk .each p low high
 
-    place-permitted : permits (cellsIn col) (col .fact) k (courseIn col .step p) ≡ true
-    place-permitted = inside-permits (cellsIn col) (col .fact) k (courseIn col .step p) own place-inside place-repairable
+    place-permitted : permits (cellsIn col) (col .fact) k (r .step p) ≡ true
+    place-permitted = inside-permits (cellsIn col) (col .fact) k (r .step p) own place-inside place-repairable
 
   -- the place of each of the conflict's repairs
   place-of : (code : ℕ) → code < perFact → inChoice q code ≡ true → (p : ℕ) × (lowPlace i j (codeKind code) ≤ p)
-      × (p < highPlace col i j (codeKind code)) × (courseIn col .step p ≡ codeAction code)
+      × (p < highPlace r i j (codeKind code)) × (r .step p ≡ codeAction code)
   unfolding inChoice
   place-of code h hq = parts (codeKind code) (omega arith) .only (codeAction code) hq
 
@@ -239,11 +238,11 @@ module _ (col : Column) (s : Choice) (j i : ℕ) (formed : ColumnFormed col) (mi
 
   -- with a set of repairs that has none of the conflict's, the fact is missing at j as well
   module _ (R : ℕ → Bool) (none : (code : ℕ) → code < perFact → (inChoice q code && R (codeNumber (col .fact) code)) ≡ false) where
-    module _ (k p : ℕ) (hk : k < kinds) (low : lowPlace i j k ≤ p) (high : p < highPlace col i j k) where
-      unrepaired : chosen R (col .fact) k (courseIn col .step p) ≡ false
+    module _ (k p : ℕ) (hk : k < kinds) (low : lowPlace i j k ≤ p) (high : p < highPlace r i j k) where
+      unrepaired : chosen R (col .fact) k (r .step p) ≡ false
       unfolding chosen
       unrepaired =
-          let a = courseIn col .step p in
+          let a = r .step p in
           let fits : a < maxActions = place-low k p hk low high in
           let number : numberOf (col .fact) k a ≡ codeNumber (col .fact) (codeOf k a) = omega arith in
           is-false _ (λ h.
@@ -251,44 +250,43 @@ module _ (col : Column) (s : Choice) (j i : ℕ) (formed : ColumnFormed col) (mi
           (sym (none (codeOf k a) (omega arith))
           ∙ and-both (inChoice q (codeOf k a)) _ (place-offered k p hk low high) (ap R (sym number) ∙ and-right (ltb a maxActions) (R (numberOf (col .fact) k a)) h)))
 
-      under : repairable (repaired (cellsIn col) R) (col .fact) k (courseIn col .step p) ≡ true
+      under : repairable (repaired (cellsIn col) R) (col .fact) k (r .step p) ≡ true
       under =
-          repaired-repairable (cellsIn col) R (col .fact) k (courseIn col .step p) hk
+          repaired-repairable (cellsIn col) R (col .fact) k (r .step p) hk
           ∙ and-both _ _ (place-repairable k p hk low high) (ap not unrepaired)
 
-    not-added : (m : ℕ) → i - 1 ≤ m → m < j → repaired (cellsIn col) R .adds (courseIn col .step m) (col .fact) ≡ false
+    not-added : (m : ℕ) → i - 1 ≤ m → m < j → repaired (cellsIn col) R .adds (r .step m) (col .fact) ≡ false
     not-added m low high =
-        not-true _ (sym (repairable-add (repaired (cellsIn col) R) (col .fact) (courseIn col .step m)) ∙ under addEffect m (omega arith) low high)
+        not-true _ (sym (repairable-add (repaired (cellsIn col) R) (col .fact) (r .step m)) ∙ under addEffect m (omega arith) low high)
 
-    absent-first : (m : ℕ) → i ≡ m → stateAt (repaired (cellsIn col) R) (courseIn col) m (col .fact) ≡ false
+    absent-first : (m : ℕ) → i ≡ m → stateAt (repaired (cellsIn col) R) r m (col .fact) ≡ false
     absent-first zero e =
-        stateAt-first (repaired (cellsIn col) R) (courseIn col) (col .fact)
-        ∙ sym (stateAt-first (cellsWith col s) (courseIn col) (col .fact))
-        ∙ absent-since col s j i missing back 0 (omega arith) (omega arith)
+        stateAt-first (repaired (cellsIn col) R) r (col .fact)
+        ∙ sym (stateAt-first (cellsWith col s) r (col .fact))
+        ∙ absent-since col r s j i missing back 0 (omega arith) (omega arith)
     absent-first (suc m) e =
-        subst (λ (n : ℕ). stateAt (repaired (cellsIn col) R) (courseIn col) n (col .fact) ≡ false) (add-one m)
-        (next-deleted (repaired (cellsIn col) R) (courseIn col) (col .fact) m
-        (sym (repairable-delete (repaired (cellsIn col) R) (col .fact) (courseIn col .step m)) ∙ under dropDelete m (omega arith) (omega arith) (omega arith))
+        subst (λ (n : ℕ). stateAt (repaired (cellsIn col) R) r n (col .fact) ≡ false) (add-one m)
+        (next-deleted (repaired (cellsIn col) R) r (col .fact) m
+        (sym (repairable-delete (repaired (cellsIn col) R) (col .fact) (r .step m)) ∙ under dropDelete m (omega arith) (omega arith) (omega arith))
         (not-added m (omega arith) (omega (arith, back .within))))
 
-    absent-there : stateAt (repaired (cellsIn col) R) (courseIn col) j (col .fact) ≡ false
+    absent-there : stateAt (repaired (cellsIn col) R) r j (col .fact) ≡ false
     absent-there =
-        carries (repaired (cellsIn col) R) (courseIn col) (col .fact) false i j (back .within) (absent-first i refl)
-        (λ k low high p. next-absent (repaired (cellsIn col) R) (courseIn col) (col .fact) k p (not-added k (omega arith) high))
+        carries (repaired (cellsIn col) R) r (col .fact) false i j (back .within) (absent-first i refl)
+        (λ k low high p. next-absent (repaired (cellsIn col) R) r (col .fact) k p (not-added k (omega arith) high))
 
-    not-right : Right (repaired (cellsIn col) R) (courseIn col) (col .fact) → NeededAt col s j → ⊥
-    unfolding courseIn
+    not-right : Right (repaired (cellsIn col) R) r (col .fact) → NeededAt col r s j → ⊥
     not-right right (by-step h n) =
         true≢false
         (sym (right .needed j h
-        (sym (repairable-need (repaired (cellsIn col) R) (col .fact) (courseIn col .step j)) ∙ under dropNeed j (omega arith) (omega arith) (omega arith)))
+        (sym (repairable-need (repaired (cellsIn col) R) (col .fact) (r .step j)) ∙ under dropNeed j (omega arith) (omega arith) (omega arith)))
         ∙ absent-there)
     not-right right (by-goal e g) =
         true≢false
-        (sym (right .wanted g) ∙ subst (λ (n : ℕ). stateAt (repaired (cellsIn col) R) (courseIn col) n (col .fact) ≡ false) e absent-there)
+        (sym (right .wanted g) ∙ subst (λ (n : ℕ). stateAt (repaired (cellsIn col) R) r n (col .fact) ≡ false) e absent-there)
 
   -- Every list that keeps the fact right has one of the conflict's, whether or not it contains the candidate.
-  conflict-meets : (l : List ℕ) → KeepsIn col l
+  conflict-meets : (l : List ℕ) → KeepsIn col (one r) l
       → (code : ℕ) × (code < perFact) × (inChoice q code ≡ true) × (isIn l (codeNumber (col .fact) code) ≡ true)
   conflict-meets l keeps = pick (find-code (λ code. inChoice q code && R (codeNumber (col .fact) code)) perFact)
     where
@@ -302,34 +300,34 @@ module _ (col : Column) (s : Choice) (j i : ℕ) (formed : ColumnFormed col) (mi
       pick (inr none) = absurd (not-right R none (keeps .right 0 (omega arith)) (missing .needed))
 
   -- The conflict's repairs are those that 01 names.
-  offered-named : (code : ℕ) → code < perFact → inChoice q code ≡ true → Named col s j code
+  offered-named : (code : ℕ) → code < perFact → inChoice q code ≡ true → Named col r s j code
   offered-named code h hq = let w = place-of code h hq in by-kind (codeKind code) refl (w .0) (w .1) (w .2) (w .3)
     where
-      by-kind : (k : ℕ) → codeKind code ≡ k → (p : ℕ) → lowPlace i j k ≤ p → p < highPlace col i j k → courseIn col .step p ≡ codeAction code
-          → Named col s j code
+      by-kind : (k : ℕ) → codeKind code ≡ k → (p : ℕ) → lowPlace i j k ≤ p → p < highPlace r i j k → r .step p ≡ codeAction code
+          → Named col r s j code
       by-kind zero e p low high here =
           let step : i ≡ p + 1 = omega arith in
-          let same : codeOf dropDelete (courseIn col .step p) ≡ code = omega arith in
-          subst (Named col s j) same (that-delete p (subst (LastDelete col s j) step back))
+          let same : codeOf dropDelete (r .step p) ≡ code = omega arith in
+          subst (Named col r s j) same (that-delete p (subst (LastDelete col r s j) step back))
       by-kind (suc zero) e p low high here =
-          let same : codeOf addEffect (courseIn col .step p) ≡ code = omega arith in
-          subst (Named col s j) same (add-between i p back (omega arith) high)
+          let same : codeOf addEffect (r .step p) ≡ code = omega arith in
+          subst (Named col r s j) same (add-between i p back (omega arith) high)
       by-kind (suc (suc zero)) e p low high here =
           let place : p ≡ j = omega arith in
-          let same : codeOf dropNeed (courseIn col .step p) ≡ code = omega arith in
-          subst (Named col s j) (ap (λ n. codeOf dropNeed (courseIn col .step n)) (sym place) ∙ same) (need-at (omega arith))
+          let same : codeOf dropNeed (r .step p) ≡ code = omega arith in
+          subst (Named col r s j) (ap (λ n. codeOf dropNeed (r .step n)) (sym place) ∙ same) (need-at (omega arith))
       by-kind (suc (suc (suc k))) e p low high here = absurd (omega arith)
 
-  named-offered : (code : ℕ) → Named col s j code → inChoice q code ≡ true
+  named-offered : (code : ℕ) → Named col r s j code → inChoice q code ≡ true
   named-offered _ (need-at h) = place-offered dropNeed j (omega arith) (omega arith) (omega arith)
   named-offered _ (that-delete p last) =
-      let step : p + 1 ≡ i = last-unique col s j (p + 1) i last back in
+      let step : p + 1 ≡ i = last-unique col r s j (p + 1) i last back in
       place-offered dropDelete p (omega arith) (omega arith) (omega arith)
   named-offered _ (add-between k p last low high) =
-      let step : k ≡ i = last-unique col s j k i last back in
+      let step : k ≡ i = last-unique col r s j k i last back in
       place-offered addEffect p (omega arith) (omega arith) high
 
-  is-conflict : ConflictAt col s j q
+  is-conflict : ConflictAt col r s j q
   is-conflict = record {
     named = λ code h. (offered-named code h, named-offered code);
     conflicts = record {
@@ -340,14 +338,14 @@ module _ (col : Column) (s : Choice) (j i : ℕ) (formed : ColumnFormed col) (mi
   }
 
 -- The sets that the code gathers make a conflict.
-module _ (col : Column) (s : Choice) (j i place end d a n : ℕ) (formed : ColumnFormed col) (missing : Missing col s j)
-    (back : LastDelete col s j i) (first : place ≡ i - 1) (last : end ≡ min (j + 1) (col .count)) where
-  pub gathered-conflict : ActionsOf col place i d → ActionsOf col place j a → ActionsOf col j end n
-      → ConflictAt col s j (record { deletes = d; adds = a; needs = n })
-  gathered-conflict hd ha hn = is-conflict col s j i formed missing back (record { deletes = d; adds = a; needs = n }) parts
+module _ (col : Column) (r : Course) (s : Choice) (j i place end d a n : ℕ) (actions : col .actions ≤ maxActions) (formed : RunFormed col r) (missing : Missing col r s j)
+    (back : LastDelete col r s j i) (first : place ≡ i - 1) (last : end ≡ min (j + 1) (r .count)) where
+  pub gathered-conflict : ActionsOf (r .step) place i d → ActionsOf (r .step) place j a → ActionsOf (r .step) j end n
+      → ConflictAt col r s j (record { deletes = d; adds = a; needs = n })
+  gathered-conflict hd ha hn = is-conflict col r s j i actions formed missing back (record { deletes = d; adds = a; needs = n }) parts
     where
-      parts : (k : ℕ) → k < kinds → ActionsOf col (lowPlace i j k) (highPlace col i j k) (byKind k d a n)
-      parts zero h = subst (λ (p : ℕ). ActionsOf col p i d) first hd
-      parts (suc zero) h = subst (λ (p : ℕ). ActionsOf col p j a) first ha
-      parts (suc (suc zero)) h = subst (λ (p : ℕ). ActionsOf col j p n) last hn
+      parts : (k : ℕ) → k < kinds → ActionsOf (r .step) (lowPlace i j k) (highPlace r i j k) (byKind k d a n)
+      parts zero h = subst (λ (p : ℕ). ActionsOf (r .step) p i d) first hd
+      parts (suc zero) h = subst (λ (p : ℕ). ActionsOf (r .step) p j a) first ha
+      parts (suc (suc zero)) h = subst (λ (p : ℕ). ActionsOf (r .step) j p n) last hn
       parts (suc (suc (suc k))) h = absurd (omega arith)

@@ -14,18 +14,18 @@ use Rattle.table.specs.Answer.{First}
 use Rattle.table.specs.Order.{isIn, _≼_}
 use Rattle.table.specs.Repairs.{permitted, factOf}
 use Rattle.table.specs.Sizes.{maxRow, perFact}
-use Rattle.table.specs.Strips.{AllRight}
-use Rattle.table.proofs.FlagLaws.{is-false, both, and-both, same-flag}
+use Rattle.table.specs.Strips.{Courses, AllRight}
+use Rattle.table.proofs.FlagLaws.{is-false, both, and-both}
 use Rattle.table.proofs.OrderLaws.{isIn-none, ≼-trans, ≼-length, first-difference-first}
 use Rattle.table.proofs.RepairLaws.{right-more}
 use Rattle.search.specs.declared.Column.{Column}
 use Rattle.search.specs.declared.Choice.{Choice}
 use Rattle.search.specs.Choices.{nothing, inChoice, numbersIn, listOf, codeNumber, Contains, Apart}
-use Rattle.search.specs.Columns.{cellsIn, coursesIn, KeepsIn}
+use Rattle.search.specs.Columns.{cellsIn, KeepsIn}
 use Rattle.search.specs.Searching.{cellsWith, Allowed, Among, SomeOf, Agree, Earlier, Short, Shortest}
 use Rattle.search.specs.Trying.{sharedBy, withoutThose, CodesBelow, NextIn}
 use Rattle.search.specs.Views.{Fullest}
-use Rattle.search.proofs.ChoiceLaws.{in-list, listOf-has, in-shared, in-without, in-without-cases, nothing-list, nothing-contained, nothing-missed, nothing-apart, find-code}
+use Rattle.search.proofs.ChoiceLaws.{in-list, in-shared, in-without, nothing-list, nothing-contained, nothing-missed, nothing-apart, find-code}
 use Rattle.search.proofs.SearchLaws.{contained-first, right-keeps}
 
 -- ---- some shortest list
@@ -34,7 +34,7 @@ use Rattle.search.proofs.SearchLaws.{contained-first, right-keeps}
 pub fullest-allowed : (col : Column) (all : Choice) → Fullest col all → Allowed col all
 fullest-allowed col all full code h t = sym (full code h) ∙ t
 
-module _ (col : Column) where
+module _ (col : Column) (rs : Courses) where
   pub nothing-allowed : (s : Choice) → s ≡ nothing → Allowed col s
   nothing-allowed s e = subst (Allowed col) (sym e) (nothing-contained (permitted (cellsIn col)) (col .fact))
 
@@ -42,40 +42,40 @@ module _ (col : Column) where
   nothing-out s e = subst (λ w. Apart w w) (sym e) (nothing-apart nothing)
 
   -- The fact is right as it stands: the empty list is the shortest.
-  pub short-none : (s : Choice) → s ≡ nothing → AllRight (cellsWith col s) (coursesIn col) (col .fact) → Short col true s
+  pub short-none : (s : Choice) → s ≡ nothing → AllRight (cellsWith col s) rs (col .fact) → Short col rs true s
   short-none s e right =
       let none : length (listOf (col .fact) s) ≡ 0 = ap (λ w. length (listOf (col .fact) w)) e ∙ ap length (nothing-list (col .fact)) in
-      (right-keeps col s (nothing-allowed s e) right, omega arith, λ l keeps. omega arith)
+      (right-keeps col rs s (nothing-allowed s e) right, omega arith, λ l keeps. omega arith)
 
 -- The fact is wrong as it stands: every list that keeps it right has some repair.
-module _ (col : Column) (s : Choice) (wrong : AllRight (cellsWith col s) (coursesIn col) (col .fact) → ⊥) where
-  has-some : (l : List ℕ) → KeepsIn col l → (code : ℕ) × (code < perFact) × (isIn l (codeNumber (col .fact) code) ≡ true)
+module _ (col : Column) (rs : Courses) (s : Choice) (wrong : AllRight (cellsWith col s) rs (col .fact) → ⊥) where
+  has-some : (l : List ℕ) → KeepsIn col rs l → (code : ℕ) × (code < perFact) × (isIn l (codeNumber (col .fact) code) ≡ true)
   has-some l keeps = pick (find-code (λ c. isIn l (codeNumber (col .fact) c)) perFact)
     where
       pick : ((c : ℕ) × (c < perFact) × (isIn l (codeNumber (col .fact) c) ≡ true)) ⊎ ((c : ℕ) → c < perFact → isIn l (codeNumber (col .fact) c) ≡ false)
           → (code : ℕ) × (code < perFact) × (isIn l (codeNumber (col .fact) code) ≡ true)
       pick (inl m) = m
       pick (inr none) =
-          absurd (wrong (right-more (cellsIn col) (coursesIn col) (col .fact) (isIn l) (numbersIn (col .fact) s)
+          absurd (wrong (right-more (cellsIn col) rs (col .fact) (isIn l) (numbersIn (col .fact) s)
           (λ n own h.
           let number : codeNumber (col .fact) (n % perFact) ≡ n = omega (arith, own) in
           absurd (false≢true (sym (none (n % perFact) (omega arith)) ∙ ap (isIn l) number ∙ h))) (keeps .right)))
 
-  pub longer-none : (l : List ℕ) → KeepsIn col l → 1 ≤ length l
+  pub longer-none : (l : List ℕ) → KeepsIn col rs l → 1 ≤ length l
   longer-none [] keeps = absurd (isIn-none _ (has-some [] keeps .2))
   longer-none (n ∷ l) keeps = omega arith
 
 -- Every permitted repair is wanted: the lists of at most k repairs are all looked for.
-module _ (col : Column) (s all : Choice) (k : ℕ) (start : s ≡ nothing) (full : Fullest col all)
-    (wrong : AllRight (cellsWith col s) (coursesIn col) (col .fact) → ⊥) where
-  among-all : (l : List ℕ) → KeepsIn col l → length l ≤ k → Among col s s all (length (listOf (col .fact) s) + k) l
+module _ (col : Column) (rs : Courses) (s all : Choice) (k : ℕ) (start : s ≡ nothing) (full : Fullest col all)
+    (wrong : AllRight (cellsWith col s) rs (col .fact) → ⊥) where
+  among-all : (l : List ℕ) → KeepsIn col rs l → length l ≤ k → Among col rs s s all (length (listOf (col .fact) s) + k) l
   among-all l keeps short = record {
     sought = record {
       keeps = keeps;
       misses = subst (λ w. (code : ℕ) → code < perFact → inChoice w code ≡ true → isIn l (codeNumber (col .fact) code) ≡ false) (sym start)
           (nothing-missed (isIn l) (col .fact));
       meets =
-          let m = has-some col s wrong l keeps in
+          let m = has-some col rs s wrong l keeps in
           (m .0, m .1, full (m .0) (m .1) ∙ keeps .permitted .each (codeNumber (col .fact) (m .0)) (m .2), m .2);
     };
     contains = subst (Contains (isIn l) (col .fact)) (sym start) (nothing-contained (isIn l) (col .fact));
@@ -84,28 +84,28 @@ module _ (col : Column) (s all : Choice) (k : ℕ) (start : s ≡ nothing) (full
 
   -- Nothing of at most k repairs: every list has more.
   pub longer-than : (any : Bool) (found : Choice) → any ≡ false
-      → SomeOf (col .fact) (Among col s s all (length (listOf (col .fact) s) + k)) any found
-      → (l : List ℕ) → KeepsIn col l → k + 1 ≤ length l
+      → SomeOf (col .fact) (Among col rs s s all (length (listOf (col .fact) s) + k)) any found
+      → (l : List ℕ) → KeepsIn col rs l → k + 1 ≤ length l
   longer-than any found e some l keeps = pick (decLt k (length l))
     where
-      none : (l : List ℕ) → Among col s s all (length (listOf (col .fact) s) + k) l → ⊥
-      none = subst (λ t. SomeOf (col .fact) (Among col s s all (length (listOf (col .fact) s) + k)) t found) e some
+      none : (l : List ℕ) → Among col rs s s all (length (listOf (col .fact) s) + k) l → ⊥
+      none = subst (λ t. SomeOf (col .fact) (Among col rs s s all (length (listOf (col .fact) s) + k)) t found) e some
 
       pick : Dec (k < length l) → k + 1 ≤ length l
       pick (yes longer) = omega arith
       pick (no no-longer) = absurd (none l (among-all l keeps (omega arith)))
 
   -- One of k repairs, where every list has as many: it is a shortest.
-  pub short-found : (any : Bool) (found : Choice) → any ≡ true → k ≤ maxRow → ((l : List ℕ) → KeepsIn col l → k ≤ length l)
-      → SomeOf (col .fact) (Among col s s all (length (listOf (col .fact) s) + k)) any found → Short col any found
-  short-found any found e room least some = subst (λ t. Short col t found) (sym e) (
+  pub short-found : (any : Bool) (found : Choice) → any ≡ true → k ≤ maxRow → ((l : List ℕ) → KeepsIn col rs l → k ≤ length l)
+      → SomeOf (col .fact) (Among col rs s s all (length (listOf (col .fact) s) + k)) any found → Short col rs any found
+  short-found any found e room least some = subst (λ t. Short col rs t found) (sym e) (
     a .sought .keeps,
     omega (arith, a .short, none),
     λ l keeps. omega (arith, a .short, none, least l keeps),
   )
     where
-      a : Among col s s all (length (listOf (col .fact) s) + k) (listOf (col .fact) found)
-      a = subst (λ t. SomeOf (col .fact) (Among col s s all (length (listOf (col .fact) s) + k)) t found) e some
+      a : Among col rs s s all (length (listOf (col .fact) s) + k) (listOf (col .fact) found)
+      a = subst (λ t. SomeOf (col .fact) (Among col rs s s all (length (listOf (col .fact) s) + k)) t found) e some
 
       none : length (listOf (col .fact) s) ≡ 0
       none = ap (λ w. length (listOf (col .fact) w)) start ∙ ap length (nothing-list (col .fact))
@@ -131,8 +131,8 @@ asked-so col best passed before all range s out want from n low high full es eo 
       (ap (λ c. inChoice c code) er ∙ in-without before passed code ∙ ap₂ (λ x y. x && not y) (high code h) (low code h));
 }
 
-module _ (col : Column) (best : Choice) (from n : ℕ) (s out want : Choice) (asked : Asked col best from n s out want)
-    (keeps : KeepsIn col (listOf (col .fact) best)) where
+module _ (col : Column) (rs : Courses) (best : Choice) (from n : ℕ) (s out want : Choice) (asked : Asked col best from n s out want)
+    (keeps : KeepsIn col rs (listOf (col .fact) best)) where
   part-of-best : (code : ℕ) → code < perFact → inChoice s code ≡ true → (inChoice best code ≡ true) × (ltb code from ≡ true)
   part-of-best code h t = both (inChoice best code) (ltb code from) (sym (asked .has code h) ∙ t)
 
@@ -149,10 +149,10 @@ module _ (col : Column) (best : Choice) (from n : ℕ) (s out want : Choice) (as
   pub asked-size : length (listOf (col .fact) s) ≤ length (listOf (col .fact) best)
   asked-size =
       ≼-length (listOf (col .fact) s) (listOf (col .fact) best)
-      (contained-first col s (listOf (col .fact) best) keeps (λ code h t. in-list (col .fact) best code h ∙ part-of-best code h t .0))
+      (contained-first col rs s (listOf (col .fact) best) keeps (λ code h t. in-list (col .fact) best code h ∙ part-of-best code h t .0))
 
   module _ (k : ℕ) (size : k ≡ length (listOf (col .fact) best)) (l : List ℕ) where
-    among-earlier : Among col s out want k l → Earlier col best from n l
+    among-earlier : Among col rs s out want k l → Earlier col rs best from n l
     among-earlier a = record {
       keeps = a .sought .keeps;
       same = λ code h low. same code h low (inChoice best code) refl ∙ sym (in-list (col .fact) best code h);
@@ -174,7 +174,7 @@ module _ (col : Column) (best : Choice) (from n : ℕ) (s out want : Choice) (as
             let range = both (ltb (m .0) n) (not (ltb (m .0) from)) (w .1) in
             (m .0, m .1, ltb-false (m .0) from (not-true (ltb (m .0) from) (range .1)), ltb-true (m .0) n (range .0), m .3)
 
-    earlier-among : Earlier col best from n l → Among col s out want k l
+    earlier-among : Earlier col rs best from n l → Among col rs s out want k l
     earlier-among e = record {
       sought = record { keeps = e .keeps; misses = misses; meets = meets };
       contains = λ code h t.
@@ -200,17 +200,17 @@ module _ (col : Column) (best : Choice) (from n : ℕ) (s out want : Choice) (as
               m .4,
             )
 
-  pub some-earlier : (k : ℕ) → k ≡ length (listOf (col .fact) best) → (any : Bool) (r : Choice) → SomeOf (col .fact) (Among col s out want k) any r
-      → SomeOf (col .fact) (Earlier col best from n) any r
+  pub some-earlier : (k : ℕ) → k ≡ length (listOf (col .fact) best) → (any : Bool) (r : Choice) → SomeOf (col .fact) (Among col rs s out want k) any r
+      → SomeOf (col .fact) (Earlier col rs best from n) any r
   some-earlier k size true r a = among-earlier k size (listOf (col .fact) r) a
   some-earlier k size false r none = λ l e. none l (earlier-among k size l e)
 
 -- ---- the first of the shortest, number by number
 
 -- Of two lists of equal length that agree below a code, the one that has it comes first.
-before-at : (col : Column) (a b : List ℕ) (code : ℕ) → KeepsIn col a → KeepsIn col b → length a ≡ length b → Agree (col .fact) code a b
+before-at : (col : Column) (rs : Courses) (a b : List ℕ) (code : ℕ) → KeepsIn col rs a → KeepsIn col rs b → length a ≡ length b → Agree (col .fact) code a b
     → isIn a (codeNumber (col .fact) code) ≡ true → isIn b (codeNumber (col .fact) code) ≡ false → a ≼ b
-before-at col a b code ka kb size same here gone =
+before-at col rs a b code ka kb size same here gone =
     inr (first-difference-first 0 0 a b (codeNumber (col .fact) code) (ka .permitted .ascending) (kb .permitted .ascending) size here
     (λ t. true≢false (sym t ∙ gone)) (below a b (ka .own) same) (below b a (kb .own) (λ c h low. sym (same c h low))))
   where
@@ -222,17 +222,17 @@ before-at col a b code ka kb size same here gone =
         (sym (same (m % perFact) (omega arith) (omega (arith, number))) ∙ ap (isIn a) number ∙ t)
 
 -- The best is a shortest list, and each that does not come after it has the same repairs with codes below `from`.
-pub record Leads (col : Column) (best : Choice) (from : ℕ) : Type 0 where
-  pub keeps : KeepsIn col (listOf (col .fact) best)
-  pub least : (l : List ℕ) → KeepsIn col l → length (listOf (col .fact) best) ≤ length l
-  pub ahead : (l : List ℕ) → KeepsIn col l → Agree (col .fact) from l (listOf (col .fact) best) ⊎ (listOf (col .fact) best ≼ l)
+pub record Leads (col : Column) (rs : Courses) (best : Choice) (from : ℕ) : Type 0 where
+  pub keeps : KeepsIn col rs (listOf (col .fact) best)
+  pub least : (l : List ℕ) → KeepsIn col rs l → length (listOf (col .fact) best) ≤ length l
+  pub ahead : (l : List ℕ) → KeepsIn col rs l → Agree (col .fact) from l (listOf (col .fact) best) ⊎ (listOf (col .fact) best ≼ l)
 
-pub leads-start : (col : Column) (some : Choice) → Short col true some → Leads col some 0
-leads-start col some short = record { keeps = short .0; least = short .2; ahead = λ l keeps. inl (λ code h low. absurd (omega arith)) }
+pub leads-start : (col : Column) (rs : Courses) (some : Choice) → Short col rs true some → Leads col rs some 0
+leads-start col rs some short = record { keeps = short .0; least = short .2; ahead = λ l keeps. inl (λ code h low. absurd (omega arith)) }
 
-module _ (col : Column) (best : Choice) (from code : ℕ) (leads : Leads col best from) (next : NextIn best from code) where
+module _ (col : Column) (rs : Courses) (best : Choice) (from code : ℕ) (leads : Leads col rs best from) (next : NextIn best from code) where
   -- One was found that has a repair before the best's next: it leads as far, and its own next is earlier.
-  module _ (r : Choice) (new : Earlier col best from code (listOf (col .fact) r)) (later : ℕ) (after : NextIn r from later) where
+  module _ (r : Choice) (new : Earlier col rs best from code (listOf (col .fact) r)) (later : ℕ) (after : NextIn r from later) where
     pub next-earlier : later < code
     next-earlier = pick (decLt (new .one .0) later)
       where
@@ -241,7 +241,7 @@ module _ (col : Column) (best : Choice) (from code : ℕ) (leads : Leads col bes
             absurd (false≢true (sym (after .absent (new .one .0) low (new .one .2)) ∙ sym (in-list (col .fact) r (new .one .0) (new .one .1)) ∙ new .one .4))
         pick (no high) = omega (arith, new .one .3)
 
-    pub leads-found : Leads col r from
+    pub leads-found : Leads col rs r from
     leads-found = record { keeps = new .keeps; least = λ l keeps. omega (arith, leads .least l keeps, new .short); ahead = λ l keeps. pick l (leads .ahead l keeps) }
       where
         best-list : List ℕ
@@ -261,7 +261,7 @@ module _ (col : Column) (best : Choice) (from code : ℕ) (leads : Leads col bes
 
         first : listOf (col .fact) r ≼ best-list
         first =
-            before-at col (listOf (col .fact) r) best-list later (new .keeps) (leads .keeps)
+            before-at col rs (listOf (col .fact) r) best-list later (new .keeps) (leads .keeps)
             (omega (arith, new .short, leads .least (listOf (col .fact) r) (new .keeps))) agree
             (in-list (col .fact) r later inside ∙ after .present inside)
             (in-list (col .fact) best later inside ∙ next .absent later next-earlier (after .after))
@@ -271,8 +271,8 @@ module _ (col : Column) (best : Choice) (from code : ℕ) (leads : Leads col bes
         pick l (inr after) = inr (≼-trans (listOf (col .fact) r) best-list l first after)
 
   -- None was found: a list that agrees below `from` has none before the best's next, and has that too, or comes after.
-  module _ (inside : code < perFact) (none : (l : List ℕ) → Earlier col best from code l → ⊥) where
-    module _ (l : List ℕ) (keeps : KeepsIn col l) (same : Agree (col .fact) from l (listOf (col .fact) best))
+  module _ (inside : code < perFact) (none : (l : List ℕ) → Earlier col rs best from code l → ⊥) where
+    module _ (l : List ℕ) (keeps : KeepsIn col rs l) (same : Agree (col .fact) from l (listOf (col .fact) best))
         (short : length l ≤ length (listOf (col .fact) best)) where
       agree-next : Agree (col .fact) code l (listOf (col .fact) best)
       agree-next c h low = by (decLt c from)
@@ -296,17 +296,17 @@ module _ (col : Column) (best : Choice) (from code : ℕ) (leads : Leads col bes
               subst (λ i. isIn l (codeNumber (col .fact) i) ≡ isIn (listOf (col .fact) best) (codeNumber (col .fact) i)) (sym e)
               (t ∙ sym (in-list (col .fact) best code inside ∙ next .present inside))
       at-next false t =
-          inr (before-at col (listOf (col .fact) best) l code (leads .keeps) keeps (omega (arith, leads .least l keeps))
+          inr (before-at col rs (listOf (col .fact) best) l code (leads .keeps) keeps (omega (arith, leads .least l keeps))
           (λ c h low. sym (agree-next c h low)) (in-list (col .fact) best code inside ∙ next .present inside) t)
 
-    pub leads-past : Leads col best (code + 1)
+    pub leads-past : Leads col rs best (code + 1)
     leads-past = record {
       keeps = leads .keeps;
       least = leads .least;
       ahead = λ l keeps. pick l keeps (leads .ahead l keeps) (decLt (length (listOf (col .fact) best)) (length l));
     }
       where
-        pick : (l : List ℕ) → KeepsIn col l → Agree (col .fact) from l (listOf (col .fact) best) ⊎ (listOf (col .fact) best ≼ l)
+        pick : (l : List ℕ) → KeepsIn col rs l → Agree (col .fact) from l (listOf (col .fact) best) ⊎ (listOf (col .fact) best ≼ l)
             → Dec (length (listOf (col .fact) best) < length l)
             → Agree (col .fact) (code + 1) l (listOf (col .fact) best) ⊎ (listOf (col .fact) best ≼ l)
         pick l keeps (inr after) d = inr after
@@ -314,12 +314,12 @@ module _ (col : Column) (best : Choice) (from code : ℕ) (leads : Leads col bes
         pick l keeps (inl same) (no no-longer) = at-next l keeps same (omega arith) (isIn l (codeNumber (col .fact) code)) refl
 
   -- The best has no more repairs: what agrees with it contains it.
-  pub leads-end : perFact ≤ code → First (KeepsIn col) (listOf (col .fact) best)
+  pub leads-end : perFact ≤ code → First (KeepsIn col rs) (listOf (col .fact) best)
   leads-end done = record { member = leads .keeps; least = λ l keeps. pick l keeps (leads .ahead l keeps) }
     where
-      pick : (l : List ℕ) → KeepsIn col l → Agree (col .fact) from l (listOf (col .fact) best) ⊎ (listOf (col .fact) best ≼ l) → listOf (col .fact) best ≼ l
+      pick : (l : List ℕ) → KeepsIn col rs l → Agree (col .fact) from l (listOf (col .fact) best) ⊎ (listOf (col .fact) best ≼ l) → listOf (col .fact) best ≼ l
       pick l keeps (inr after) = after
-      pick l keeps (inl same) = contained-first col best l keeps (λ c h t. by c h t (decLt c from))
+      pick l keeps (inl same) = contained-first col rs best l keeps (λ c h t. by c h t (decLt c from))
         where
           by : (c : ℕ) → c < perFact → inChoice best c ≡ true → Dec (c < from) → isIn l (codeNumber (col .fact) c) ≡ true
           by c h t (yes before) = same c h before ∙ in-list (col .fact) best c h ∙ t
@@ -334,40 +334,40 @@ Turned best found any from code best′ from′ =
 abbrev pub ahead-of : ℕ → ℕ → ℕ
 ahead-of from code = (perFact + 1) * (perFact - from) + code
 
-module _ (col : Column) (best found : Choice) (any : Bool) (from code : ℕ) (leads : Leads col best from) (next : NextIn best from code) (inside : code < perFact)
-    (tried : SomeOf (col .fact) (Earlier col best from code) any found) (best′ : Choice) (from′ : ℕ) where
+module _ (col : Column) (rs : Courses) (best found : Choice) (any : Bool) (from code : ℕ) (leads : Leads col rs best from) (next : NextIn best from code) (inside : code < perFact)
+    (tried : SomeOf (col .fact) (Earlier col rs best from code) any found) (best′ : Choice) (from′ : ℕ) where
   pub turned-within : Turned best found any from code best′ from′ → from′ ≤ perFact
   turned-within (inl w) = omega (arith, w .2, next .after)
   turned-within (inr w) = omega (arith, w .2)
 
   module _ (code′ : ℕ) (next′ : NextIn best′ from′ code′) where
-    new : any ≡ true → Earlier col best from code (listOf (col .fact) found)
-    new e = subst (λ t. SomeOf (col .fact) (Earlier col best from code) t found) e tried
+    new : any ≡ true → Earlier col rs best from code (listOf (col .fact) found)
+    new e = subst (λ t. SomeOf (col .fact) (Earlier col rs best from code) t found) e tried
 
     at-found : (any ≡ true) × (best′ ≡ found) × (from′ ≡ from) → NextIn found from code′
     at-found w = subst (λ b. NextIn b from code′) (w .1) (subst (λ i. NextIn best′ i code′) (w .2) next′)
 
-    pub turned-leads : Turned best found any from code best′ from′ → Leads col best′ from′
+    pub turned-leads : Turned best found any from code best′ from′ → Leads col rs best′ from′
     turned-leads (inl w) =
-        subst (Leads col best′) (sym (w .2))
-        (subst (λ b. Leads col b from) (sym (w .1)) (leads-found col best from code leads next found (new (w .0)) code′ (at-found w)))
+        subst (Leads col rs best′) (sym (w .2))
+        (subst (λ b. Leads col rs b from) (sym (w .1)) (leads-found col rs best from code leads next found (new (w .0)) code′ (at-found w)))
     turned-leads (inr w) =
-        subst (Leads col best′) (sym (w .2))
-        (subst (λ b. Leads col b (code + 1)) (sym (w .1))
-        (leads-past col best from code leads next inside (subst (λ t. SomeOf (col .fact) (Earlier col best from code) t found) (w .0) tried)))
+        subst (Leads col rs best′) (sym (w .2))
+        (subst (λ b. Leads col rs b (code + 1)) (sym (w .1))
+        (leads-past col rs best from code leads next inside (subst (λ t. SomeOf (col .fact) (Earlier col rs best from code) t found) (w .0) tried)))
 
     pub turned-falls : Turned best found any from code best′ from′ → ahead-of from′ code′ < ahead-of from code
-    turned-falls (inl w) = omega (arith, w .2, next-earlier col best from code leads next found (new (w .0)) code′ (at-found w))
+    turned-falls (inl w) = omega (arith, w .2, next-earlier col rs best from code leads next found (new (w .0)) code′ (at-found w))
     turned-falls (inr w) = omega (arith, w .2, next .after, next′ .within)
 
 -- ---- the whole search of a column
 
-module _ (col : Column) where
-  pub shortest-none : (any : Bool) (r : Choice) → any ≡ false → Short col any r → Shortest col any r
+module _ (col : Column) (rs : Courses) where
+  pub shortest-none : (any : Bool) (r : Choice) → any ≡ false → Short col rs any r → Shortest col rs any r
   shortest-none true r e short = absurd (true≢false e)
   shortest-none false r e longer = longer
 
   -- The first of the lists is no longer than some shortest.
-  pub shortest-first : (some r : Choice) → Short col true some → First (KeepsIn col) (listOf (col .fact) r) → Shortest col true r
+  pub shortest-first : (some r : Choice) → Short col rs true some → First (KeepsIn col rs) (listOf (col .fact) r) → Shortest col rs true r
   shortest-first some r short first =
       (first, omega (arith, short .1, ≼-length (listOf (col .fact) r) (listOf (col .fact) some) (first .least (listOf (col .fact) some) (short .0))))

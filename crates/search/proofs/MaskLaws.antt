@@ -1,17 +1,17 @@
 -- Laws of a choice as three masks of actions: its size as counts, its next code as a lowest
 -- place, the codes below one.
-use mathlib.Core.Bool.{Bool, true, false, not, _&&_, _||_, false≢true, and-true, and-false}
-use mathlib.Core.Path.{_≡_, refl, sym, ap, ap₂, _∙_}
+use mathlib.Core.Bool.{true, false, not, _&&_, and-true, and-false}
+use mathlib.Core.Path.{_≡_, sym, ap, _∙_}
 use Prim.Native.Nat.{ℕ, zero, suc, _+_, _*_, _-_, _^_, _<_, _≤_, min}
 use native.Mathlib.Decide.{decLt}
 use native.Mathlib.Omega.{arith}
 use borrow.Author.Tests.{lt-ltb, le-ltb, ltb-true, ltb-false, not-true}
 use lib.Dec.{ltb}
 use lib.ListN.{length}
-use Rattle.facts.specs.Sets.{width, bit, has, joined, shared, removed, below, count, lowest, sumBits}
+use Rattle.facts.specs.Sets.{width, bit, has, shared, removed, below, count, lowest, sumBits}
 use Rattle.facts.proofs.Counting.{bit-has, count-sum, lowest-has, lowest-first, lowest-empty}
 use Rattle.facts.proofs.Digits.{bit-lt}
-use Rattle.facts.proofs.Laws.{has-joined, has-shared, has-removed, has-below, joined-lt, shared-lt, removed-lt}
+use Rattle.facts.proofs.Laws.{has-shared, has-removed, has-below, shared-lt, removed-lt}
 use Rattle.table.specs.Lists.{gather}
 use Rattle.table.specs.Repairs.{dropDelete, addEffect, dropNeed}
 use Rattle.table.proofs.FlagLaws.{and-left, and-right, same-flag}

@@ -11,6 +11,7 @@ use Rattle.table.specs.Answer.{found, over, hopeless}
 use Rattle.table.specs.Lists.{gather, piece}
 use Rattle.table.specs.Repairs.{numberOf, numbered}
 use Rattle.table.specs.Sizes.{maxFacts, maxRow, perFact, unused}
+use Rattle.table.specs.Strips.{Courses}
 use Rattle.table.specs.Tasks.{WellFormed, KeepsFor}
 use Rattle.table.specs.declared.Task.{Task}
 use Rattle.table.proofs.AnswerLaws.{first-same}
@@ -18,16 +19,14 @@ use Rattle.table.proofs.GatherLaws.{gather-none, gather-part, gather-step, pass
 use Rattle.table.proofs.JoinLaws.{keepsFor-outside}
 use Rattle.table.proofs.RepairNumbers.{numbered-inside}
 use Rattle.search.specs.Choices.{codeKind, codeAction, inChoice, listOf, codeNumber}
-use Rattle.search.specs.Columns.{KeepsIn}
-use Rattle.search.specs.Gaps.{Gap}
+use Rattle.search.specs.Columns.{coursesIn, KeepsIn}
 use Rattle.search.specs.Rows.{rowOf, rowWith, rowOver, rowHopeless, RightRow}
-use Rattle.search.specs.Searching.{Shortest}
+use Rattle.search.specs.Searching.{Rightness, Shortest}
 use Rattle.search.specs.Trying.{NextIn}
 use Rattle.search.specs.Views.{Shows, Fullest}
 use Rattle.search.specs.declared.Choice.{Choice}
 use Rattle.search.specs.declared.Column.{Column}
 use Rattle.search.proofs.ChoiceLaws.{codes, codes-length, weight}
-use Rattle.search.proofs.SearchLaws.{gap-right, gap-missing, missing-wrong}
 use Rattle.search.proofs.ViewLaws.{keeps-in, in-keeps, fullest-right, fullest-keeps}
 
 -- ---- writing a list repair by repair
@@ -112,9 +111,9 @@ unfolding rowOf
 outside-row t well f row h e = record { verdict = found []; within = (keepsFor-outside t well f h, omega arith); shown = e }
 
 -- A row has room for what the search found.
-pub found-short : (col : Column) (f : ℕ) (any : Bool) (best : Choice) → col .fact ≡ f → any ≡ true → Shortest col any best → length (listOf f best) ≤ maxRow
-found-short col f false best own some short = absurd (false≢true some)
-found-short col f true best own some short = subst (λ (g : ℕ). length (listOf g best) ≤ maxRow) own (short .1)
+pub found-short : (col : Column) (rs : Courses) (f : ℕ) (any : Bool) (best : Choice) → col .fact ≡ f → any ≡ true → Shortest col rs any best → length (listOf f best) ≤ maxRow
+found-short col rs f false best own some short = absurd (false≢true some)
+found-short col rs f true best own some short = subst (λ (g : ℕ). length (listOf g best) ≤ maxRow) own (short .1)
 
 module _ (t : Task) (f : ℕ) (row : List ℕ) (col : Column) (own : col .fact ≡ f) (shows : Shows t col) (inside : f < t .table .facts) where
   here : col .fact < t .table .facts
@@ -124,42 +123,41 @@ module _ (t : Task) (f : ℕ) (row : List ℕ) (col : Column) (own : col .fact �
   for-fact : RightRow t (col .fact) row → RightRow t f row
   for-fact right = subst (λ (g : ℕ). RightRow t g row) own right
 
-  pub found-row : (any : Bool) (best : Choice) → any ≡ true → Shortest col any best → row ≡ rowOf (found (listOf f best)) → RightRow t f row
+  pub found-row : (any : Bool) (best : Choice) → any ≡ true → Shortest col (coursesIn col (t .run .steps)) any best → row ≡ rowOf (found (listOf f best)) → RightRow t f row
   found-row false best some short e = absurd (false≢true some)
   found-row true best some short e =
       for-fact record {
         verdict = found (listOf (col .fact) best);
         within = (
-          first-same (KeepsIn col) (KeepsFor t (col .fact)) (in-keeps t col shows here) (keeps-in t col shows here) (listOf (col .fact) best) (short .0),
+          first-same (KeepsIn col (coursesIn col (t .run .steps))) (KeepsFor t (col .fact)) (in-keeps t col shows here) (keeps-in t col shows here) (listOf (col .fact) best) (short .0),
           short .1,
         );
         shown = e ∙ ap (λ (g : ℕ). rowOf (found (listOf g best))) (sym own);
       }
 
-  pub over-row : (any : Bool) (best full : Choice) (j : ℕ) → any ≡ false → Shortest col any best → Fullest col full → Gap col full j
-      → col .count < j → row ≡ (rowOver ∷ replicate maxRow unused) → RightRow t f row
+  pub over-row : (any : Bool) (best full : Choice) → any ≡ false → Shortest col (coursesIn col (t .run .steps)) any best → Fullest col full
+      → Rightness col (coursesIn col (t .run .steps)) full true → row ≡ (rowOver ∷ replicate maxRow unused) → RightRow t f row
   unfolding rowOf
-  over-row true best full j nothing short most gap past e = absurd (false≢true (sym nothing))
-  over-row false best full j nothing short most gap past e =
+  over-row true best full nothing short most right e = absurd (false≢true (sym nothing))
+  over-row false best full nothing short most right e =
       for-fact record {
         verdict = over;
         within = (
           (
             listOf (col .fact) full,
-            in-keeps t col shows here (listOf (col .fact) full) (fullest-keeps col full most (λ i h. gap-right col full j gap past)),
+            in-keeps t col shows here (listOf (col .fact) full) (fullest-keeps col (coursesIn col (t .run .steps)) full most right),
           ),
           λ m keeps. short m (keeps-in t col shows here m keeps),
         );
         shown = e;
       }
 
-  pub hopeless-row : (full : Choice) (j : ℕ) → Fullest col full → Gap col full j → j ≤ col .count → row ≡ (rowHopeless ∷ replicate maxRow unused)
-      → RightRow t f row
+  pub hopeless-row : (full : Choice) → Fullest col full → Rightness col (coursesIn col (t .run .steps)) full false
+      → row ≡ (rowHopeless ∷ replicate maxRow unused) → RightRow t f row
   unfolding rowOf
-  hopeless-row full j most gap h e =
+  hopeless-row full most wrong e =
       for-fact record {
         verdict = hopeless;
-        within = λ m keeps.
-            missing-wrong col full j (gap-missing col full j gap h) (fullest-right col full most m (keeps-in t col shows here m keeps) 0 (omega arith));
+        within = λ m keeps. wrong (fullest-right col (coursesIn col (t .run .steps)) full most m (keeps-in t col shows here m keeps));
         shown = e;
       }

@@ -14,13 +14,13 @@ use Rattle.facts.proofs.Laws.{has-empty, has-with, has-shared, has-removed, has
 use Rattle.table.specs.Repairs.{byKind, dropDelete, addEffect, factOf, kindOf, actionOf, permits, permitted}
 use Rattle.table.specs.Sizes.{maxActions, perFact}
 use Rattle.table.specs.Order.{isIn}
-use Rattle.table.specs.Strips.{Cells, AllRight}
+use Rattle.table.specs.Strips.{Cells, Courses, AllRight}
 use Rattle.table.specs.Tasks.{WellFormed, cellsOf, courseOf, coursesOf, KeepsFor}
 use Rattle.table.specs.declared.Task.{Task}
 use Rattle.table.proofs.AnswerLaws.{AlikeAt, alike-sym, keeps-alike}
 use Rattle.table.proofs.OrderLaws.{compared}
 use Rattle.table.proofs.RepairLaws.{right-more}
-use Rattle.table.proofs.RunLaws.{SameCoursesAt, sameCourses-sym}
+use Rattle.table.proofs.RunLaws.{SameCourseAt, SameCoursesAt, sameCourses-sym}
 use Rattle.table.proofs.RepairNumbers.{permitted-permits}
 use Rattle.search.proofs.SearchLaws.{right-keeps}
 use Rattle.search.specs.Choices.{inChoice, numbersIn, listOf, codeNumber, codeKind, codeAction}
@@ -67,6 +67,11 @@ module _ (sets : ℕ → ℕ) (f : ℕ) where
       (above-i m i a wanted h g))
       (compared a i)
 
+-- A mask that has the first run, if it is wanted.
+pub first-run : (m : ℕ) (wanted : Bool) → m ≡ cond wanted (joined 0 (only 0)) 0 → has m 0 ≡ wanted
+first-run m true e = ap (λ (n : ℕ). has n 0) e ∙ has-with 0 0 0 (omega arith) ∙ rw (eq-eqb 0 0 refl, has-empty 0)
+first-run m false e = ap (λ (n : ℕ). has n 0) e ∙ has-empty 0
+
 -- A row of sets is empty past its end.
 pub gathers-end : (sets : List ℕ) (f i m : ℕ) → length sets ≡ maxActions → i ≡ maxActions → GathersBelow (λ a. getD sets a 0) f i m
     → Gathers (λ a. getD sets a 0) f m
@@ -107,13 +112,13 @@ code-permitted c f code h =
     permitted-permits c (codeNumber f code) ∙ rw (fact, kind, action)
 
 -- Exactly the permitted repairs: dropped deletes and needs that are there, and effects that are not.
-pub fullest-is : (col : Column) → ColumnFormed col → (s : Choice) → s .deletes ≡ shared (below (col .actions)) (col .deletes)
+pub fullest-is : (col : Column) → col .actions ≤ maxActions → (s : Choice) → s .deletes ≡ shared (below (col .actions)) (col .deletes)
     → s .adds ≡ removed (below (col .actions)) (col .adds) → s .needs ≡ shared (below (col .actions)) (col .needs) → Fullest col s
 unfolding inChoice permits cellsIn
-fullest-is col formed s d a n code h =
+fullest-is col high s d a n code h =
     let x = codeAction code in
     let all : has (below (col .actions)) x ≡ ltb x (col .actions) =
-    has-below (col .actions) x ∙ ap (ltb x) (least (formed .actions-high)) in
+    has-below (col .actions) x ∙ ap (ltb x) (least high) in
     rw (code-permitted (cellsIn col) (col .fact) code h, lt-ltb (col .fact) (suc (col .fact)) (omega arith), d, a, n)
     (has-by-kind (codeKind code) _ _ _ x (ltb x (col .actions)) _ _ _
     (has-shared (below (col .actions)) (col .deletes) x ∙ ap (λ b. b && has (col .deletes) x) all)
@@ -124,10 +129,10 @@ fullest-is col formed s d a n code h =
     least l = omega arith
 
 -- Working is monotone: a list that keeps the fact right has no repair that the fullest choice lacks, so the fullest does too.
-pub fullest-right : (col : Column) (s : Choice) → Fullest col s → (l : List ℕ) → KeepsIn col l → AllRight (cellsWith col s) (coursesIn col) (col .fact)
+pub fullest-right : (col : Column) (rs : Courses) (s : Choice) → Fullest col s → (l : List ℕ) → KeepsIn col rs l → AllRight (cellsWith col s) rs (col .fact)
 unfolding numbersIn
-fullest-right col s full l keeps =
-    right-more (cellsIn col) (coursesIn col) (col .fact) (isIn l) (numbersIn (col .fact) s) more (keeps .right)
+fullest-right col rs s full l keeps =
+    right-more (cellsIn col) rs (col .fact) (isIn l) (numbersIn (col .fact) s) more (keeps .right)
   where
     more : (n : ℕ) → factOf n ≡ col .fact → isIn l n ≡ true → numbersIn (col .fact) s n ≡ true
     more n own h =
@@ -135,19 +140,41 @@ fullest-right col s full l keeps =
         rw (eq-eqb (factOf n) (col .fact) own, full (n % perFact) (omega arith), here) (keeps .permitted .each n h)
 
 -- And then its list keeps the fact right.
-pub fullest-keeps : (col : Column) (s : Choice) → Fullest col s → AllRight (cellsWith col s) (coursesIn col) (col .fact)
-    → KeepsIn col (listOf (col .fact) s)
-fullest-keeps col s full right = right-keeps col s (λ code h chosen. sym (full code h) ∙ chosen) right
+pub fullest-keeps : (col : Column) (rs : Courses) (s : Choice) → Fullest col s → AllRight (cellsWith col s) rs (col .fact)
+    → KeepsIn col rs (listOf (col .fact) s)
+fullest-keeps col rs s full right = right-keeps col rs s (λ code h chosen. sym (full code h) ∙ chosen) right
 
 -- ---- a task and its column
 
-pub shows-formed : (t : Task) → WellFormed t → (col : Column) → Shows t col → ColumnFormed col
-shows-formed t well col shows = record {
-  actions-high = omega (arith, shows .actions, well .actions-high);
-  count-high = omega (arith, shows .count, well .count-high);
-  steps-length = ap length (shows .steps) ∙ well .shaped .steps;
-  steps-below = λ i h. rw (shows .steps, shows .actions) (well .steps-below i (omega (arith, shows .count)));
-}
+module _ (t : Task) (col : Column) (shows : Shows t col) where
+  -- The one run of the column is the task's, at the column's fact.
+  same-course : (i : ℕ) → i < 1 → SameCourseAt (col .fact) (courseOf (t .run)) (courseIn col (t .run .steps) i)
+  unfolding courseOf courseIn
+  same-course i h =
+      let first : 0 ≡ i = omega arith in
+      subst (λ (k : ℕ). SameCourseAt (col .fact) (courseOf (t .run)) (courseIn col (t .run .steps) k)) first (record {
+        start = sym (shows .start);
+        goal = sym (shows .goal);
+        count = ap (λ (l : List ℕ). getD l 0 0) (sym (shows .counts));
+        steps = λ j low. let e : j ≡ 0 + j = omega arith in ap (λ (k : ℕ). getD (t .run .steps) k 0) e;
+      })
+
+  pub shows-formed : WellFormed t → ColumnFormed col (t .run .steps)
+  unfolding courseOf
+  shows-formed well = record {
+    actions-high = omega (arith, shows .actions, well .actions-high);
+    runs-high = omega (arith, shows .runs);
+    steps-length = well .shaped .steps;
+    run = λ i h.
+        let same = same-course i (omega (arith, shows .runs)) in
+        record {
+          count-high = omega (arith, same .count, well .count-high);
+          steps-below = λ j low.
+              let inside : j < t .run .count = omega (arith, same .count) in
+              let below : getD (t .run .steps) j 0 < t .table .actions = well .steps-below j inside in
+              omega (arith, below, same .steps j inside, shows .actions);
+        };
+  }
 
 module _ (t : Task) (col : Column) (shows : Shows t col) (inside : col .fact < t .table .facts) where
   same-cells : AlikeAt (col .fact) (cellsOf (t .table)) (cellsIn col)
@@ -160,23 +187,14 @@ module _ (t : Task) (col : Column) (shows : Shows t col) (inside : col .fact < t
     deletes = λ a. sym (shows .deletes a);
   }
 
-  same-courses : SameCoursesAt (col .fact) (coursesOf t) (coursesIn col)
-  unfolding courseOf courseIn
-  same-courses = record {
-    many = refl;
-    each = λ i h. record {
-      start = sym (shows .start);
-      goal = sym (shows .goal);
-      count = sym (shows .count);
-      steps = λ i h. rw (shows .steps);
-    };
-  }
+  same-courses : SameCoursesAt (col .fact) (coursesOf t) (coursesIn col (t .run .steps))
+  same-courses = record { many = sym (shows .runs); each = same-course t col shows }
 
   -- So a list keeps the fact right in the task exactly if it does so in the column.
-  pub keeps-in : (l : List ℕ) → KeepsFor t (col .fact) l → KeepsIn col l
-  keeps-in = keeps-alike (col .fact) (cellsOf (t .table)) (cellsIn col) same-cells (coursesOf t) (coursesIn col) same-courses
+  pub keeps-in : (l : List ℕ) → KeepsFor t (col .fact) l → KeepsIn col (coursesIn col (t .run .steps)) l
+  keeps-in = keeps-alike (col .fact) (cellsOf (t .table)) (cellsIn col) same-cells (coursesOf t) (coursesIn col (t .run .steps)) same-courses
 
-  pub in-keeps : (l : List ℕ) → KeepsIn col l → KeepsFor t (col .fact) l
+  pub in-keeps : (l : List ℕ) → KeepsIn col (coursesIn col (t .run .steps)) l → KeepsFor t (col .fact) l
   in-keeps =
-      keeps-alike (col .fact) (cellsIn col) (cellsOf (t .table)) (alike-sym (col .fact) _ _ same-cells) (coursesIn col) (coursesOf t)
+      keeps-alike (col .fact) (cellsIn col) (cellsOf (t .table)) (alike-sym (col .fact) _ _ same-cells) (coursesIn col (t .run .steps)) (coursesOf t)
       (sameCourses-sym (col .fact) _ _ same-courses)

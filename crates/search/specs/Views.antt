@@ -1,4 +1,5 @@
 -- What a column of a task shows, and the fullest choice of a column.
+use mathlib.Core.List.{[], _∷_}
 use mathlib.Core.Path.{_≡_}
 use Prim.Native.Nat.{ℕ, _<_}
 use lib.ListN.{getD}
@@ -15,16 +16,16 @@ use Rattle.search.specs.Columns.{cellsIn}
 abbrev pub Gathers : (ℕ → ℕ) → ℕ → ℕ → Type 0
 Gathers sets f m = (a : ℕ) → has m a ≡ has (sets a) f
 
--- The column shows its fact of the task: which actions need, add and delete it, start and goal, and the steps.
+-- The column shows its fact of the task: which actions need, add and delete it, and its one run's start, goal and number of steps.
 pub record Shows (t : Task) (col : Column) : Type 0 where
   pub actions : col .actions ≡ t .table .actions
   pub needs : Gathers (λ a. getD (t .table .needs) a 0) (col .fact) (col .needs)
   pub adds : Gathers (λ a. getD (t .table .adds) a 0) (col .fact) (col .adds)
   pub deletes : Gathers (λ a. getD (t .table .deletes) a 0) (col .fact) (col .deletes)
-  pub start : col .start ≡ has (t .run .start) (col .fact)
-  pub goal : col .goal ≡ has (t .run .goal) (col .fact)
-  pub count : col .count ≡ t .run .count
-  pub steps : col .steps ≡ t .run .steps
+  pub runs : col .runs ≡ 1
+  pub start : has (col .start) 0 ≡ has (t .run .start) (col .fact)
+  pub goal : has (col .goal) 0 ≡ has (t .run .goal) (col .fact)
+  pub counts : col .counts ≡ (t .run .count ∷ [])
 
 -- Every permitted repair of the column's fact, and nothing else.
 abbrev pub Fullest : Column → Choice → Type 0

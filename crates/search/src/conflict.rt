@@ -3,25 +3,28 @@
 use crate::Choice;
 use crate::Column;
 use crate::gap;
+use table::STEPS;
 ghost use mathlib.Core.Path.{_≡_};
-ghost use Prim.Native.Nat.{_+_, _-_, _≤_, min};
-ghost use Rattle.search.specs.Columns.{ColumnFormed};
+ghost use Prim.Native.Nat.{_+_, _-_, _<_, _≤_, min};
+ghost use Rattle.search.specs.Columns.{ColumnFormed, courseIn};
 ghost use Rattle.search.specs.Gaps.{LastDelete, ConflictAt, ActionsOf};
 ghost use Rattle.search.specs.Searching.{Missing};
 
 // "Look back from j until the last step that deleted f is met, or the start": the deleting step, counted from 1, or 0
 // for the start.
-pub(crate) fn look_back(col: Column, s: Choice, j: usize) -> usize
-    requires { ⌜ ColumnFormed col ⌝ }
-    requires { ⌜ j ≤ col .count ⌝ }
-    ensures { λ r. ⌜ LastDelete col s j r ⌝ }
+pub(crate) fn look_back(col: Column, steps: &[u8], run: usize, s: Choice, j: usize) -> usize
+    requires { ⌜ ColumnFormed col (now steps) ⌝ }
+    requires { ⌜ run < col .runs ⌝ }
+    requires { ⌜ j ≤ courseIn col (now steps) run .count ⌝ }
+    ensures { λ r. ⌜ LastDelete col (courseIn col (now (steps .entry)) run) s j r ⌝ }
 {
+    let from = STEPS * run;
     let mut i = j;
     loop {
         if i == 0 {
             break 0;
         }
-        let a = col.steps[i - 1] as usize;
+        let a = steps[from + (i - 1)] as usize;
         if gap::deletes_with(col, s, a) {
             break i;
         }
@@ -31,14 +34,22 @@ pub(crate) fn look_back(col: Column, s: Choice, j: usize) -> usize
 
 // The set of the actions of the steps from `start` on and before `end`, counted from 0. A repair changes an action
 // everywhere it is run, so a step stands for its action.
-pub(crate) fn actions_between(col: Column, start: usize, end: usize) -> u64
-    requires { ⌜ ColumnFormed col ⌝ }
-    requires { ⌜ end ≤ col .count ⌝ }
-    ensures { λ r. ⌜ ActionsOf col start end r ⌝ }
+pub(crate) fn actions_between(
+    col: Column,
+    steps: &[u8],
+    run: usize,
+    start: usize,
+    end: usize,
+) -> u64
+    requires { ⌜ ColumnFormed col (now steps) ⌝ }
+    requires { ⌜ run < col .runs ⌝ }
+    requires { ⌜ end ≤ courseIn col (now steps) run .count ⌝ }
+    ensures { λ r. ⌜ ActionsOf (courseIn col (now (steps .entry)) run .step) start end r ⌝ }
 {
+    let from = STEPS * run;
     let mut found = 0;
     for i in start..end {
-        let a = col.steps[i] as usize;
+        let a = steps[from + i] as usize;
         found = facts::with_fact(found, a);
     }
     found
@@ -59,17 +70,18 @@ pub(crate) fn after_step(j: usize, count: usize) -> usize
 }
 
 // "drop the need at j (not for a goal), drop that delete, add f at any step from the deleting one up to j-1"
-pub(crate) fn conflict(col: Column, s: Choice, j: usize) -> Choice
-    requires { ⌜ ColumnFormed col ⌝ }
-    requires { ⌜ Missing col s j ⌝ }
-    ensures { λ r. ⌜ ConflictAt col s j r ⌝ }
+pub(crate) fn conflict(col: Column, steps: &[u8], run: usize, s: Choice, j: usize) -> Choice
+    requires { ⌜ ColumnFormed col (now steps) ⌝ }
+    requires { ⌜ run < col .runs ⌝ }
+    requires { ⌜ Missing col (courseIn col (now steps) run) s j ⌝ }
+    ensures { λ r. ⌜ ConflictAt col (courseIn col (now (steps .entry)) run) s j r ⌝ }
 {
-    let step = look_back(col, s, j);
+    let count = col.counts[run];
+    let step = look_back(col, steps, run, s, j);
     let place = place_of(step);
-    let count = col.count;
-    let deletes = actions_between(col, place, step);
-    let adds = actions_between(col, place, j);
-    let needs = actions_between(col, j, after_step(j, count));
+    let deletes = actions_between(col, steps, run, place, step);
+    let adds = actions_between(col, steps, run, place, j);
+    let needs = actions_between(col, steps, run, j, after_step(j, count));
     Choice {
         deletes,
         adds,

@@ -2,10 +2,11 @@
 // conflict": "a fact f is missing at step j").
 use crate::Choice;
 use crate::Column;
+use table::STEPS;
 ghost use mathlib.Core.Path.{_≡_};
 ghost use Prim.Native.Nat.{_<_};
 ghost use Rattle.table.specs.Sizes.{maxActions};
-ghost use Rattle.search.specs.Columns.{ColumnFormed};
+ghost use Rattle.search.specs.Columns.{ColumnFormed, courseIn};
 ghost use Rattle.search.specs.Searching.{cellsWith};
 ghost use Rattle.search.specs.Gaps.{Gap};
 
@@ -32,22 +33,24 @@ pub(crate) fn deletes_with(col: Column, s: Choice, a: usize) -> bool
     facts::contains(facts::remove(col.deletes, s.deletes), a)
 }
 
-// The first place where the fact is missing: step i + 1 has place i, the goal the place after the last step. One more
+// The first place of the run where the fact is missing: step i + 1 has place i, the goal the place after the last step. One more
 // than that if it is missing nowhere.
-pub(crate) fn first_gap(col: Column, s: Choice) -> usize
-    requires { ⌜ ColumnFormed col ⌝ }
-    ensures { λ r. ⌜ Gap col s r ⌝ }
+pub(crate) fn first_gap(col: Column, steps: &[u8], run: usize, s: Choice) -> usize
+    requires { ⌜ ColumnFormed col (now steps) ⌝ }
+    requires { ⌜ run < col .runs ⌝ }
+    ensures { λ r. ⌜ Gap col (courseIn col (now (steps .entry)) run) s r ⌝ }
 {
-    let count = col.count;
-    let mut present = col.start;
+    let count = col.counts[run];
+    let from = STEPS * run;
+    let mut present = facts::contains(col.start, run);
     for i in 0..count {
-        let a = col.steps[i] as usize;
+        let a = steps[from + i] as usize;
         if needs_with(col, s, a) & !present {
             return i;
         }
         present = (present & !deletes_with(col, s, a)) | adds_with(col, s, a);
     }
-    if col.goal & !present {
+    if facts::contains(col.goal, run) & !present {
         count
     } else {
         count + 1

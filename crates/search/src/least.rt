@@ -4,7 +4,7 @@ use crate::Choice;
 use crate::Column;
 use crate::Found;
 use crate::choices;
-use crate::gap;
+use crate::lack;
 use crate::search;
 use crate::view;
 use table::ROW;
@@ -12,18 +12,17 @@ use table::repair::Repair;
 ghost use mathlib.Core.Bool.{true};
 ghost use Rattle.table.specs.Answer.{First};
 ghost use Rattle.search.specs.Choices.{listOf};
-ghost use Rattle.search.specs.Columns.{ColumnFormed, KeepsIn};
+ghost use Rattle.search.specs.Columns.{ColumnFormed, coursesIn, KeepsIn};
 ghost use Rattle.search.specs.Searching.{SomeOf, Earlier, Short, Shortest};
 
 // A shortest list that keeps the column's fact right, if a row has room for it. Lengths are tried in turn, so that a deep
 // search is paid only where it is needed. A fact that is wrong needs some permitted repair.
-pub(crate) fn some_shortest(col: Column) -> Found
-    requires { ⌜ ColumnFormed col ⌝ }
-    ensures { λ r. ⌜ Short col (r .any) (r .choice) ⌝ }
+pub(crate) fn some_shortest(col: Column, steps: &[u8]) -> Found
+    requires { ⌜ ColumnFormed col (now steps) ⌝ }
+    ensures { λ r. ⌜ Short col (coursesIn col (now (steps .entry))) (r .any) (r .choice) ⌝ }
 {
-    let count = col.count;
     let empty = choices::nothing();
-    if count < gap::first_gap(col, empty) {
+    if lack::is_right(col, steps, empty) {
         return Found {
             any: true,
             choice: empty,
@@ -31,7 +30,7 @@ pub(crate) fn some_shortest(col: Column) -> Found
     }
     let all = view::fullest(col);
     for left in 1..=ROW {
-        let found = search::test(col, empty, empty, all, left);
+        let found = search::test(col, steps, empty, empty, all, left);
         if found.any {
             return found;
         }
@@ -44,10 +43,10 @@ pub(crate) fn some_shortest(col: Column) -> Found
 
 // A list that is no longer than the best so far, has the same repairs as that with codes below `from`, and one from there on
 // with a code before `code`; nothing exactly if there is none.
-pub(crate) fn earlier(col: Column, best: Choice, from: usize, code: usize) -> Found
-    requires { ⌜ ColumnFormed col ⌝ }
-    requires { ⌜ KeepsIn col (listOf (col .fact) best) ⌝ }
-    ensures { λ r. ⌜ SomeOf (col .fact) (Earlier col best from code) (r .any) (r .choice) ⌝ }
+pub(crate) fn earlier(col: Column, steps: &[u8], best: Choice, from: usize, code: usize) -> Found
+    requires { ⌜ ColumnFormed col (now steps) ⌝ }
+    requires { ⌜ KeepsIn col (coursesIn col (now steps)) (listOf (col .fact) best) ⌝ }
+    ensures { λ r. ⌜ SomeOf (col .fact) (Earlier col (coursesIn col (now (steps .entry))) best from code) (r .any) (r .choice) ⌝ }
 {
     let passed = choices::below(from);
     let s = choices::shared(best, passed);
@@ -55,20 +54,20 @@ pub(crate) fn earlier(col: Column, best: Choice, from: usize, code: usize) -> Fo
     let range = choices::without(choices::below(code), passed);
     let want = choices::shared(view::fullest(col), range);
     let left = choices::size(best) - choices::size(s);
-    search::test(col, s, out, want, left)
+    search::test(col, steps, s, out, want, left)
 }
 
 // The first of the shortest lists, from any of them: the best so far is the first as far as its codes below `from` go.
-pub(crate) fn first_of(col: Column, some: Choice) -> Choice
-    requires { ⌜ ColumnFormed col ⌝ }
-    requires { ⌜ Short col true some ⌝ }
-    ensures { λ r. ⌜ First (KeepsIn col) (listOf (col .fact) r) ⌝ }
+pub(crate) fn first_of(col: Column, steps: &[u8], some: Choice) -> Choice
+    requires { ⌜ ColumnFormed col (now steps) ⌝ }
+    requires { ⌜ Short col (coursesIn col (now steps)) true some ⌝ }
+    ensures { λ r. ⌜ First (KeepsIn col (coursesIn col (now (steps .entry)))) (listOf (col .fact) r) ⌝ }
 {
     let mut best = some;
     let mut from = 0;
     let mut code = choices::next_in(best, from);
     while code < Repair::PER_FACT {
-        let found = earlier(col, best, from, code);
+        let found = earlier(col, steps, best, from, code);
         if found.any {
             best = found.choice;
         } else {
@@ -80,16 +79,16 @@ pub(crate) fn first_of(col: Column, some: Choice) -> Choice
 }
 
 // The first of the shortest lists that keep the column's fact right, if a row has room for it.
-pub(crate) fn shortest(col: Column) -> Found
-    requires { ⌜ ColumnFormed col ⌝ }
-    ensures { λ r. ⌜ Shortest col (r .any) (r .choice) ⌝ }
+pub(crate) fn shortest(col: Column, steps: &[u8]) -> Found
+    requires { ⌜ ColumnFormed col (now steps) ⌝ }
+    ensures { λ r. ⌜ Shortest col (coursesIn col (now (steps .entry))) (r .any) (r .choice) ⌝ }
 {
-    let some = some_shortest(col);
+    let some = some_shortest(col, steps);
     if !some.any {
         return some;
     }
     Found {
         any: true,
-        choice: first_of(col, some.choice),
+        choice: first_of(col, steps, some.choice),
     }
 }

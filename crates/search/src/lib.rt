@@ -11,21 +11,21 @@ pub mod row;
 mod search;
 mod view;
 
-use table::STEPS;
+use table::RUNS;
 
-// One fact's cells and the run: the actions that need it, add it and delete it, as masks of actions; is it at the
-// start, is it a goal; and the steps. A fact can be diagnosed by itself (source document 003), so this is all that a
-// search looks at.
+// One fact's cells: the actions that need it, add it and delete it, as masks of actions; the runs that have it at the start and
+// those that have it as a goal, as masks of runs; and how many steps each run has. A fact can be diagnosed by itself (source
+// document 003), so this and the steps, which are lent, are all that a search looks at.
 pub struct Column {
     pub fact: usize,
     pub actions: usize,
     pub needs: u64,
     pub adds: u64,
     pub deletes: u64,
-    pub start: bool,
-    pub goal: bool,
-    pub count: usize,
-    pub steps: [u8; STEPS],
+    pub runs: usize,
+    pub start: u64,
+    pub goal: u64,
+    pub counts: [usize; RUNS],
 }
 
 // A set of repairs of one fact: the actions whose delete is dropped, that get the effect, whose need is dropped.

@@ -4,7 +4,9 @@ use crate::Choice;
 use crate::Column;
 use crate::choices;
 use crate::gap;
-ghost use Rattle.search.specs.Columns.{ColumnFormed};
+use table::STEPS;
+ghost use Prim.Native.Nat.{_<_};
+ghost use Rattle.search.specs.Columns.{ColumnFormed, courseIn};
 ghost use Rattle.search.specs.Gaps.{Gap, Noted};
 
 // A place, and how many repairs are left there.
@@ -56,19 +58,21 @@ fn narrower(best: Place, i: usize, count: usize, missing: bool, q: Choice) -> Pl
 
 // A place where the fact is missing, one with the fewest repairs that are not out; or the one after the goal's. With one
 // repair left, or none, there is no narrower place to look for.
-pub(crate) fn narrowest_gap(col: Column, s: Choice, out: Choice) -> usize
-    requires { ⌜ ColumnFormed col ⌝ }
-    ensures { λ r. ⌜ Gap col s r ⌝ }
+pub(crate) fn narrowest_gap(col: Column, steps: &[u8], run: usize, s: Choice, out: Choice) -> usize
+    requires { ⌜ ColumnFormed col (now steps) ⌝ }
+    requires { ⌜ run < col .runs ⌝ }
+    ensures { λ r. ⌜ Gap col (courseIn col (now (steps .entry)) run) s r ⌝ }
 {
-    let count = col.count;
-    let mut present = col.start;
+    let count = col.counts[run];
+    let from = STEPS * run;
+    let mut present = facts::contains(col.start, run);
     let mut open = choices::nothing();
     let mut best = Place {
         at: count + 1,
         left: 2,
     };
     for i in 0..count {
-        let a = col.steps[i] as usize;
+        let a = steps[from + i] as usize;
         let missing = gap::needs_with(col, s, a) & !present;
         best = narrower(
             best,
@@ -84,6 +88,6 @@ pub(crate) fn narrowest_gap(col: Column, s: Choice, out: Choice) -> usize
         open = opened(open, a, gone);
         present = (present & !gone) | gap::adds_with(col, s, a);
     }
-    let missing = col.goal & !present;
+    let missing = facts::contains(col.goal, run) & !present;
     narrower(best, count, count, missing, choices::without(open, out)).at
 }

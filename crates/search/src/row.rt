@@ -1,7 +1,7 @@
 // A fact's row of the session table (document 01, "The session table").
 use crate::Choice;
 use crate::choices;
-use crate::gap;
+use crate::lack;
 use crate::least;
 use crate::view;
 use table::ROW_PLACES;
@@ -87,15 +87,15 @@ fn right_row(t: Task, f: usize) -> Filling
         return bare_row(0);
     }
     let col = view::column_of(t, f);
-    let found = least::shortest(col);
+    let steps = t.run.steps;
+    let found = least::shortest(col, &steps);
     if found.any {
         return row_of_choice(f, found.choice);
     }
-    let count = col.count;
-    if gap::first_gap(col, view::fullest(col)) <= count {
-        bare_row(HOPELESS as u16)
-    } else {
+    if lack::is_right(col, &steps, view::fullest(col)) {
         bare_row(OVER as u16)
+    } else {
+        bare_row(HOPELESS as u16)
     }
 }
 

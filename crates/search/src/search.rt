@@ -12,19 +12,26 @@ ghost use mathlib.Core.Bool.{false};
 ghost use Prim.Native.Nat.{_+_, _<_};
 ghost use lib.ListN.{length};
 ghost use Rattle.search.specs.Choices.{listOf, Apart};
-ghost use Rattle.search.specs.Columns.{ColumnFormed};
+ghost use Rattle.search.specs.Columns.{ColumnFormed, coursesIn};
 ghost use Rattle.search.specs.Searching.{Allowed, Complete, Among, SomeOf};
 
 // A list that keeps the fact right, has one of the repairs that are wanted and none of those that are out, contains the
 // candidate and has at most `left` repairs more; nothing exactly if there is none.
-pub(crate) fn test(col: Column, s: Choice, out: Choice, want: Choice, left: usize) -> Found
-    requires { ⌜ ColumnFormed col ⌝ }
+pub(crate) fn test(
+    col: Column,
+    steps: &[u8],
+    s: Choice,
+    out: Choice,
+    want: Choice,
+    left: usize,
+) -> Found
+    requires { ⌜ ColumnFormed col (now steps) ⌝ }
     requires { ⌜ Allowed col s ⌝ }
     requires { ⌜ Allowed col want ⌝ }
     requires { ⌜ Apart s out ⌝ }
-    ensures { λ r. ⌜ SomeOf (col .fact) (Among col s out want (length (listOf (col .fact) s) + left)) (r .any) (r .choice) ⌝ }
+    ensures { λ r. ⌜ SomeOf (col .fact) (Among col (coursesIn col (now (steps .entry))) s out want (length (listOf (col .fact) s) + left)) (r .any) (r .choice) ⌝ }
 {
-    if lack::is_complete(col, s, want) {
+    if lack::is_complete(col, steps, s, want) {
         return Found {
             any: true,
             choice: s,
@@ -37,29 +44,43 @@ pub(crate) fn test(col: Column, s: Choice, out: Choice, want: Choice, left: usiz
     if left == 0 {
         return none;
     }
-    let reached = bound::reach(col, s, out, want, left);
+    let reached = bound::reach(col, steps, s, out, want, left);
     if !reached.any {
         return none;
     }
-    branch(col, s, reached.choice, want, left)
+    branch(col, steps, s, reached.choice, want, left)
 }
 
 // The same, for a candidate that fails: every list that contains it has one of the repairs that it lacks. The first of these
 // that a list has is the one with which it is found, so those before it are out.
-pub(crate) fn branch(col: Column, s: Choice, out: Choice, want: Choice, left: usize) -> Found
-    requires { ⌜ ColumnFormed col ⌝ }
+pub(crate) fn branch(
+    col: Column,
+    steps: &[u8],
+    s: Choice,
+    out: Choice,
+    want: Choice,
+    left: usize,
+) -> Found
+    requires { ⌜ ColumnFormed col (now steps) ⌝ }
     requires { ⌜ Allowed col s ⌝ }
     requires { ⌜ Allowed col want ⌝ }
     requires { ⌜ Apart s out ⌝ }
-    requires { ⌜ Complete col s want false ⌝ }
+    requires { ⌜ Complete col (coursesIn col (now steps)) s want false ⌝ }
     requires { ⌜ 0 < left ⌝ }
-    ensures { λ r. ⌜ SomeOf (col .fact) (Among col s out want (length (listOf (col .fact) s) + left)) (r .any) (r .choice) ⌝ }
+    ensures { λ r. ⌜ SomeOf (col .fact) (Among col (coursesIn col (now (steps .entry))) s out want (length (listOf (col .fact) s) + left)) (r .any) (r .choice) ⌝ }
 {
-    let q = lack::lacking(col, s, out, want).choice;
+    let q = lack::lacking(col, steps, s, out, want).choice;
     let mut out = out;
     let mut code = choices::next_in(q, 0);
     while code < Repair::PER_FACT {
-        let found = test(col, choices::with_repair(s, code), out, want, left - 1);
+        let found = test(
+            col,
+            steps,
+            choices::with_repair(s, code),
+            out,
+            want,
+            left - 1,
+        );
         if found.any {
             return found;
         }

@@ -2,12 +2,14 @@
 use crate::Choice;
 use crate::Column;
 use table::ACTIONS;
+use table::RUNS;
 use table::Task;
 ghost use mathlib.Core.Bool.{cond};
 ghost use mathlib.Core.Path.{_≡_};
+ghost use Prim.Native.Nat.{_≤_};
 ghost use lib.ListN.{getD};
 ghost use Rattle.facts.specs.Sets.{joined, only};
-ghost use Rattle.search.specs.Columns.{ColumnFormed};
+ghost use Rattle.table.specs.Sizes.{maxActions};
 ghost use Rattle.search.specs.Views.{Gathers, Shows, Fullest};
 
 fn with_if(m: u64, a: usize, wanted: bool) -> u64
@@ -33,23 +35,24 @@ pub(crate) fn column_of(t: Task, f: usize) -> Column
     let needs = t.table.needs;
     let adds = t.table.adds;
     let deletes = t.table.deletes;
-    let steps = t.run.steps;
+    let mut counts = [0; RUNS];
+    counts[0] = t.run.count;
     Column {
         fact: f,
         actions: t.table.actions,
         needs: actions_having(needs, f),
         adds: actions_having(adds, f),
         deletes: actions_having(deletes, f),
-        start: facts::contains(t.run.start, f),
-        goal: facts::contains(t.run.goal, f),
-        count: t.run.count,
-        steps,
+        runs: 1,
+        start: with_if(0, 0, facts::contains(t.run.start, f)),
+        goal: with_if(0, 0, facts::contains(t.run.goal, f)),
+        counts,
     }
 }
 
 // Every permitted repair of the column's fact: if these do not keep it right, nothing does.
 pub(crate) fn fullest(col: Column) -> Choice
-    requires { ⌜ ColumnFormed col ⌝ }
+    requires { ⌜ col .actions ≤ maxActions ⌝ }
     ensures { λ r. ⌜ Fullest col r ⌝ }
 {
     let all = facts::below_mask(col.actions);

@@ -11,6 +11,10 @@ maxActions = 32
 abbrev pub maxSteps : ℕ
 maxSteps = 64
 
+-- A task has one run.
+abbrev pub maxRuns : ℕ
+maxRuns = 1
+
 abbrev pub maxLimit : ℕ
 maxLimit = 6
 

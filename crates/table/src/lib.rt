@@ -19,6 +19,8 @@ pub const ACTIONS: usize = 32;
 
 pub const STEPS: usize = 64;
 
+pub const RUNS: usize = 1;
+
 pub const LIMIT: usize = 6;
 
 pub const ROW: usize = 6;

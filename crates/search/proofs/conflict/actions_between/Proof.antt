@@ -1,57 +1,89 @@
 -- `search::conflict::actions_between` gathers the actions of the steps between two places. The invariant: those before i are in.
-use Prim.Native.Nat.{_≤_, _<_, _-_, max}
+use Prim.Native.Nat.{_+_, _*_, _≤_, _<_, _-_, max}
 use native.Mathlib.Omega.{arith}
-use lib.ListN.{getD}
-use Rattle.facts.specs.Sets.{width}
+use lib.ListN.{length, getD}
+use Rattle.table.specs.Sizes.{maxActions, maxSteps}
+use Rattle.table.specs.Strips.{Course}
 use Rattle.search.specs.Columns.{courseIn}
 use Rattle.search.specs.Gaps.{ActionsOf}
-use Rattle.search.proofs.ColumnLaws.{step-lt}
+use Rattle.search.proofs.ColumnLaws.{step-inside, step-read}
 use Rattle.search.proofs.ConflictLaws.{actions-none, actions-more, actions-end}
 use Rattle.search.proofs.conflict.actions_between.Statement.{statement}
 use Rattle.search.proofs.conflict.actions_between.Tie as tie
 
 abbrev Inv-loop : tie.InvT-loop
-Inv-loop start end col found₀ i₀ found i = (start ≤ i) × (i ≤ max start end) × ActionsOf col start i found
+Inv-loop steps run start end from found₀ i₀ found i =
+    (start ≤ i) × (i ≤ max start end) × ActionsOf (λ j. getD steps (maxSteps * run + j) 0) start i found
 
 abbrev μ-loop : tie.MeasureT-loop
-μ-loop start end col found₀ i₀ found i = end - i
+μ-loop steps run start end from found₀ i₀ found i = end - i
+
+-- where the call began, and the run
+abbrev begun : tie.At-loop Inv-loop μ-loop → tie.Start Inv-loop μ-loop
+begun c = c .before .before
+
+abbrev run-of : tie.At-loop Inv-loop μ-loop → Course
+run-of c = courseIn (begun c .args .col) (begun c .args .steps .now) (begun c .args .run)
+
+-- the step is one of the run's, and an action
+inside : (c : tie.In-loop Inv-loop μ-loop) → c .before .loop .i < run-of (c .before) .count
+inside c = omega (arith, c .loop-test .taken, begun (c .before) .pre .1 .1)
+
+action-here : (c : tie.In-loop Inv-loop μ-loop) → getD (begun (c .before) .args .steps .now) (maxSteps * begun (c .before) .args .run + c .before .loop .i) 0 < maxActions
+action-here c =
+    let at = begun (c .before) in
+    step-read (at .args .col) (at .args .steps .now) (at .pre .0) (at .args .run) (at .pre .1 .0) (c .before .loop .i) (inside c)
+
+place-here : (c : tie.In-loop Inv-loop μ-loop) → maxSteps * begun (c .before) .args .run + c .before .loop .i < length (begun (c .before) .args .steps .now)
+place-here c =
+    let at = begun (c .before) in
+    step-inside (at .args .col) (at .args .steps .now) (at .pre .0) (at .args .run) (at .pre .1 .0) (c .before .loop .i) (inside c)
+
+mul-from : tie.Need-mul-from Inv-loop μ-loop
+mul-from c = omega (arith, c .before .pre .0 .runs-high, c .before .pre .1 .0)
 
 loop-holds : tie.Need-loop-holds Inv-loop μ-loop
-loop-holds c = (omega arith, omega arith, actions-none (c .args .t1) (c .args .start))
+loop-holds c = (omega arith, omega arith, actions-none (λ j. getD (c .before .args .steps .now) (maxSteps * c .before .args .run + j) 0) (c .before .args .start))
 
-element-copy-out-a : tie.Need-element-copy-out-a Inv-loop μ-loop
-element-copy-out-a c = omega (arith, c .before .before .pre .0 .count-high)
+add-a : tie.Need-add-a Inv-loop μ-loop
+add-a c = omega (arith, place-here c, begun (c .before) .pre .0 .steps-length)
+
+shared-slice-read-a : tie.Need-shared-slice-read-a Inv-loop μ-loop
+shared-slice-read-a c = place-here (c .before)
 
 cast-a : tie.Need-cast-a Inv-loop μ-loop
-cast-a c = omega (arith, step-lt (c .before .before .before .args .t1) (c .before .before .before .pre .0) (c .before .before .loop .i) (omega arith))
+cast-a c = omega (arith, action-here (c .before))
 
 with-fact-requires : tie.Need-with-fact-requires Inv-loop μ-loop
 with-fact-requires c κs = tt
 
 add-i : tie.Need-add-i Inv-loop μ-loop
-add-i c = omega arith
+add-i c =
+    let here = c .before .before in
+    omega (arith, place-here here, begun (here .before) .pre .0 .steps-length)
 
 loop-less : tie.Need-loop-less Inv-loop μ-loop
 loop-less c = omega arith
 
 loop-again : tie.Need-loop-again Inv-loop μ-loop
-unfolding courseIn
 loop-again c =
-    let here = c .before .before .before in
-    let i = here .loop .i in
-    let start = here .before in
-    let col = start .args .t1 in
-    let room : getD (col .steps) i 0 < width = omega (arith, step-lt col (start .pre .0) i (omega arith)) in (
+    let turn = c .before .before in
+    let here = turn .before in
+    let a = begun here .args in (
       omega arith,
       omega arith,
       rw (c .with-fact .ensures)
-          (actions-more col (start .args .start) i (here .loop .found) (omega arith) room (here .loop .inv .2)),
+          (actions-more (λ j. getD (a .steps .now) (maxSteps * a .run + j) 0) (a .start) (here .loop .i) (here .loop .found) (omega arith)
+          (omega (arith, action-here turn)) (here .loop .inv .2)),
     )
 
 returns : tie.Need-returns Inv-loop μ-loop
+unfolding courseIn
 returns c =
-    actions-end (c .before .before .args .t1) (c .before .before .args .start) (c .before .loop .i) (c .before .before .args .end) (c .before .loop .found) (omega arith)
-    (omega arith) (c .before .loop .inv .2)
+    let here = c .before in
+    let a = begun here .args in
+    actions-end (λ j. getD (a .steps .now) (maxSteps * a .run + j) 0) (a .start) (here .loop .i) (a .end) (here .loop .found) (omega arith) (omega arith)
+    (here .loop .inv .2)
 
 pub actions-between-spec : {M : Type 1} → statement M
 actions-between-spec =
@@ -59,8 +91,10 @@ actions-between-spec =
     (tie.spec
     Inv-loop
     μ-loop
+    mul-from
     loop-holds
-    element-copy-out-a
+    add-a
+    shared-slice-read-a
     cast-a
     with-fact-requires
     add-i

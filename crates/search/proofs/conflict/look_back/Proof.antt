@@ -1,37 +1,70 @@
 -- `search::conflict::look_back` yields the last deleting step before j, or the start. The invariant: no step from i on deletes.
 use mathlib.Core.Path.{sym, subst, _∙_}
-use Prim.Native.Nat.{_≤_, _-_}
+use Prim.Native.Nat.{_+_, _*_, _<_, _≤_, _-_}
 use native.Mathlib.Omega.{arith}
+use lib.ListN.{length, getD}
+use Rattle.table.specs.Sizes.{maxActions, maxSteps}
+use Rattle.table.specs.Strips.{Course}
 use Rattle.search.specs.Columns.{courseIn}
-use Rattle.search.proofs.ColumnLaws.{step-lt}
+use Rattle.search.proofs.ColumnLaws.{step-inside, step-read}
 use Rattle.search.proofs.ConflictLaws.{NoDelete, noDelete-none, noDelete-more}
 use Rattle.search.proofs.conflict.look_back.Statement.{statement}
 use Rattle.search.proofs.conflict.look_back.Tie as tie
 
 abbrev Inv-loop : tie.InvT-loop
-Inv-loop s j col i₀ i = (i ≤ j) × NoDelete col s j i
+Inv-loop col steps run s j from i₀ i = (i ≤ j) × NoDelete col (courseIn col steps run) s j i
 
 abbrev μ-loop : tie.MeasureT-loop
-μ-loop s j col i₀ i = i
+μ-loop col steps run s j from i₀ i = i
 
--- where the turn began
+-- where the call began, the run, and where the turn began
+abbrev start : tie.At-loop Inv-loop μ-loop → tie.Start Inv-loop μ-loop
+start c = c .before .before
+
+abbrev run-of : tie.At-loop Inv-loop μ-loop → Course
+run-of c = courseIn (start c .args .col) (start c .args .steps .now) (start c .args .run)
+
 abbrev at-loop : tie.After-deletes-with Inv-loop μ-loop → tie.At-loop Inv-loop μ-loop
 at-loop c = c .before .before .before
 
+-- the step is one of the run's
+inside : (c : tie.Else1 Inv-loop μ-loop) → c .before .loop .i - 1 < run-of (c .before) .count
+inside c = omega (arith, start (c .before) .pre .1 .1, c .before .loop .inv .0)
+
+action-here : (c : tie.Else1 Inv-loop μ-loop)
+    → getD (start (c .before) .args .steps .now) (maxSteps * start (c .before) .args .run + (c .before .loop .i - 1)) 0 < maxActions
+action-here c =
+    let at = start (c .before) in
+    step-read (at .args .col) (at .args .steps .now) (at .pre .0) (at .args .run) (at .pre .1 .0) (c .before .loop .i - 1) (inside c)
+
+place-here : (c : tie.Else1 Inv-loop μ-loop)
+    → maxSteps * start (c .before) .args .run + (c .before .loop .i - 1) < length (start (c .before) .args .steps .now)
+place-here c =
+    let at = start (c .before) in
+    step-inside (at .args .col) (at .args .steps .now) (at .pre .0) (at .args .run) (at .pre .1 .0) (c .before .loop .i - 1) (inside c)
+
+mul-from : tie.Need-mul-from Inv-loop μ-loop
+mul-from c = omega (arith, c .before .pre .0 .runs-high, c .before .pre .1 .0)
+
 loop-holds : tie.Need-loop-holds Inv-loop μ-loop
-loop-holds c = (omega arith, noDelete-none (c .args .t1) (c .args .s) (c .args .j))
+loop-holds c =
+    let a = c .before .args in
+    (omega arith, noDelete-none (a .col) (courseIn (a .col) (a .steps .now) (a .run)) (a .s) (a .j))
 
 sub-a : tie.Need-sub-a Inv-loop μ-loop
 sub-a c = omega arith
 
-element-copy-out-a : tie.Need-element-copy-out-a Inv-loop μ-loop
-element-copy-out-a c = omega (arith, c .before .before .pre .0 .count-high)
+add-a : tie.Need-add-a Inv-loop μ-loop
+add-a c = omega (arith, place-here c, start (c .before) .pre .0 .steps-length)
+
+shared-slice-read-a : tie.Need-shared-slice-read-a Inv-loop μ-loop
+shared-slice-read-a c = place-here (c .before)
 
 cast-a : tie.Need-cast-a Inv-loop μ-loop
-cast-a c = omega (arith, step-lt (c .before .before .before .args .t1) (c .before .before .before .pre .0) (c .before .before .loop .i - 1) (omega arith))
+cast-a c = omega (arith, action-here (c .before))
 
 deletes-with-requires : tie.Need-deletes-with-requires Inv-loop μ-loop
-deletes-with-requires c κs = step-lt (c .before .before .before .args .t1) (c .before .before .before .pre .0) (c .before .before .loop .i - 1) (omega arith)
+deletes-with-requires c κs = action-here (c .before)
 
 sub-i : tie.Need-sub-i Inv-loop μ-loop
 sub-i c = omega arith
@@ -43,9 +76,9 @@ loop-again : tie.Need-loop-again Inv-loop μ-loop
 unfolding courseIn
 loop-again c =
     let here = at-loop (c .before) in
-    let a = here .before .args in (
+    let a = start here .args in (
       omega arith,
-      noDelete-more (a .t1) (a .s) (a .j) (here .loop .i) (here .loop .inv .1) (sym (c .before .deletes-with .ensures) ∙ c .if2 .left),
+      noDelete-more (a .col) (run-of here) (a .s) (a .j) (here .loop .i) (here .loop .inv .1) (sym (c .before .deletes-with .ensures) ∙ c .if2 .left),
     )
 
 returns : tie.Need-returns Inv-loop μ-loop
@@ -53,7 +86,10 @@ returns c =
     record {
       within = omega arith;
       deleted = λ h. absurd (omega arith);
-      since = let a = c .before .before .args in subst (NoDelete (a .t1) (a .s) (a .j)) (c .if1 .taken) (c .before .loop .inv .1);
+      since =
+          let here = c .before in
+          let a = start here .args in
+          subst (NoDelete (a .col) (run-of here) (a .s) (a .j)) (c .if1 .taken) (here .loop .inv .1);
     }
 
 returns-2 : tie.Need-returns-2 Inv-loop μ-loop
@@ -71,9 +107,11 @@ look-back-spec =
     (tie.spec
     Inv-loop
     μ-loop
+    mul-from
     loop-holds
     sub-a
-    element-copy-out-a
+    add-a
+    shared-slice-read-a
     cast-a
     deletes-with-requires
     sub-i

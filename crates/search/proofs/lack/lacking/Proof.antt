@@ -1,79 +1,73 @@
--- `search::lack::lacking` takes the conflict of a place where the fact is missing, or what is wanted.
+-- `search::lack::lacking` takes one run after another: what is lacking as far as those before go.
 use mathlib.Core.Bool.{not}
 use mathlib.Core.Path.{sym, subst}
-use borrow.Author.Tests.{not-true}
-use Rattle.table.proofs.FlagLaws.{and-left}
-use Rattle.search.specs.Searching.{Lacks, Lacking}
-use Rattle.search.specs.Trying.{Sharing}
-use Rattle.search.proofs.SearchLaws.{gap-missing, lacking-right, wanted-lacks, conflict-lacks}
-use borrow.Author.Needs.{needs}
+use Prim.Native.Nat.{_-_, _≤_}
+use native.Mathlib.Omega.{arith}
+use Rattle.search.specs.Columns.{coursesIn}
+use Rattle.search.specs.Searching.{LackingBelow}
+use Rattle.search.proofs.SearchLaws.{lacking-none}
 use Rattle.search.proofs.lack.lacking.Statement.{statement}
 use Rattle.search.proofs.lack.lacking.Tie as tie
 
-share-requires : tie.Need-share-requires
-share-requires c κs = search needs
+abbrev Inv-loop : tie.InvT-loop
+Inv-loop col steps s out want runs met best₀ run₀ best run =
+    (run ≤ runs) × LackingBelow col (coursesIn col steps) s out want run (best .any) (best .choice)
 
-without-requires : tie.Need-without-requires
-without-requires c κs = search needs
+abbrev μ-loop : tie.MeasureT-loop
+μ-loop col steps s out want runs met best₀ run₀ best run = runs - run
 
-narrowest-gap-requires : tie.Need-narrowest-gap-requires
-narrowest-gap-requires c κs = search needs
+-- where the call began
+abbrev start : tie.At-loop Inv-loop μ-loop → tie.Start Inv-loop μ-loop
+start c = c .before .before .before .before
 
-returns : tie.Need-returns
+share-requires : tie.Need-share-requires Inv-loop μ-loop
+share-requires c κs = tt
+
+without-requires : tie.Need-without-requires Inv-loop μ-loop
+without-requires c κs = tt
+
+loop-holds : tie.Need-loop-holds Inv-loop μ-loop
+loop-holds c =
+    let met = c .before .share in
+    let at = c .before .before .before in
+    let a = at .args in
+    let rs = coursesIn (a .col) (a .steps .now) in (
+      omega arith,
+      subst (LackingBelow (a .col) rs (a .s) (a .out) (a .want) 0 (not (met .result))) (sym (c .without .ensures))
+          (lacking-none (a .col) rs (a .s) (a .out) (a .want) (met .result) (at .pre .1) (met .ensures)),
+    )
+
+with-run-requires : tie.Need-with-run-requires Inv-loop μ-loop
+with-run-requires c κs = (start (c .before) .pre .0, (c .loop-test .taken, c .before .loop .inv .1))
+
+add-run : tie.Need-add-run Inv-loop μ-loop
+add-run c = omega (arith, start (c .before .before) .pre .0 .runs-high)
+
+loop-less : tie.Need-loop-less Inv-loop μ-loop
+loop-less c = omega arith
+
+loop-again : tie.Need-loop-again Inv-loop μ-loop
+loop-again c = (omega arith, c .with-run .ensures)
+
+returns : tie.Need-returns Inv-loop μ-loop
 returns c =
-    let gap = c .before .narrowest-gap in
-    let rest = c .before .before .without in
-    let met = c .before .before .before .share in
-    let at = c .before .before .before .before in
-    let a = at .args in
-    subst (Lacking (a .col) (a .s) (a .out) (a .want) (not (met .result))) (sym (rest .ensures))
-    (lacking-right (a .col) (a .s) (a .out) (a .want) (gap .result) (met .result) (at .pre .1) (gap .ensures) (c .if1 .taken) (met .ensures))
-
-conflict-requires : tie.Need-conflict-requires
-conflict-requires c κs =
-    let gap = c .before .narrowest-gap in
-    let at = c .before .before .before .before in
-    (at .pre .0, gap-missing (at .args .col) (at .args .s) (gap .result) (gap .ensures) (c .if1 .left))
-
-without-requires-2 : tie.Need-without-requires-2
-without-requires-2 c κs = search needs
-
-size-requires : tie.Need-size-requires
-size-requires c κs = search needs
-
-size-requires-2 : tie.Need-size-requires-2
-size-requires-2 c κs = search needs
-
-returns-2 : tie.Need-returns-2
-returns-2 c =
-    let rest = c .before .before .before .before .before .before .before .without in
-    let met = c .before .before .before .before .before .before .before .before .share in
-    let at = c .before .before .before .before .before .before .before .before .before in
-    let a = at .args in
-    subst (Lacks (a .col) (a .s) (a .out) (a .want)) (sym (rest .ensures))
-    (wanted-lacks (a .col) (a .s) (a .out) (a .want) (at .pre .1)
-    (subst (Sharing (a .s) (a .want)) (not-true (met .result) (and-left _ _ (c .if2 .taken))) (met .ensures)))
-
-returns-3 : tie.Need-returns-3
-returns-3 c =
-    let kept = c .before .before .before in
-    let q = kept .before .conflict in
-    let at = kept .before .before .before .before .before .before in
-    let a = at .args in
-    subst (Lacks (a .col) (a .s) (a .out) (a .want)) (sym (kept .without2 .ensures))
-    (conflict-lacks (a .col) (a .s) (a .out) (a .want) (q .result) (q .ensures .conflicts))
+    let here = c .before in
+    let a = start here .args in
+    let rs = coursesIn (a .col) (a .steps .now) in
+    subst (λ n. LackingBelow (a .col) rs (a .s) (a .out) (a .want) n (here .loop .best .any) (here .loop .best .choice))
+    (omega (arith, here .loop .inv .0, c .loop-test .left)) (here .loop .inv .1)
 
 pub lacking-spec : {M : Type 1} → statement M
 lacking-spec =
     tie.close
     (tie.spec
+    Inv-loop
+    μ-loop
     share-requires
     without-requires
-    narrowest-gap-requires
-    returns
-    conflict-requires
-    without-requires-2
-    size-requires
-    size-requires-2
-    returns-2
-    returns-3)
+    loop-holds
+    with-run-requires
+    add-run
+    loop-less
+    loop-again
+    returns)

@@ -4,6 +4,7 @@ use Prim.Native.Nat.{_+_, _-_, _≤_}
 use native.Mathlib.Omega.{arith}
 use lib.ListN.{length}
 use Rattle.search.specs.Choices.{listOf}
+use Rattle.search.specs.Columns.{coursesIn}
 use Rattle.search.proofs.LeastLaws.{Asked, asked-so, asked-allowed, asked-wanted, asked-apart, asked-size, some-earlier}
 use borrow.Author.Needs.{needs}
 use Rattle.search.proofs.least.earlier.Statement.{statement}
@@ -25,7 +26,7 @@ without-requires-2 : tie.Need-without-requires-2
 without-requires-2 c κs = search needs
 
 fullest-requires : tie.Need-fullest-requires
-fullest-requires c κs = search needs
+fullest-requires c κs = c .before .before .before .before .before .before .pre .0 .actions-high
 
 shared-requires-2 : tie.Need-shared-requires-2
 shared-requires-2 c κs = search needs
@@ -38,7 +39,7 @@ size-requires-2 c κs = search needs
 
 -- where the call began
 abbrev start : tie.After-shared2 → tie.Start
-start c = c .before .before .before .before .before .before .before
+start c = c .before .before .before .before .before .before .before .before
 
 -- what the search is asked for
 asked : (c : tie.After-shared2)
@@ -51,7 +52,7 @@ asked c =
     let out = high .before in
     let s = out .before in
     let low = s .before in
-    let a = low .before .args in
+    let a = low .before .before .args in
     asked-so (a .col) (a .best) (low .below .result) (high .below2 .result) (all .fullest .result) (range .without2 .result) (s .shared .result)
     (out .without .result) (c .shared2 .result) (a .from) (a .code) (low .below .ensures) (high .below2 .ensures) (all .fullest .ensures) (s .shared .ensures)
     (out .without .ensures) (range .without2 .ensures) (c .shared2 .ensures)
@@ -64,7 +65,8 @@ part-size : (c : tie.After-size2)
 part-size c =
     let at = c .before .before in
     let a = start at .args in
-    let smaller = asked-size (a .col) (a .best) (a .from) (a .code) _ _ _ (asked at) (start at .pre .1) in
+    let rs = coursesIn (a .col) (a .steps .now) in
+    let smaller = asked-size (a .col) rs (a .best) (a .from) (a .code) _ _ _ (asked at) (start at .pre .1) in
     (omega (arith, c .size2 .ensures (a .col .fact), c .before .size .ensures (a .col .fact)), omega (arith, c .size2 .ensures (a .col .fact), c .before .size .ensures (a .col .fact)))
 
 sub-left : tie.Need-sub-left
@@ -74,13 +76,14 @@ test-requires : tie.Need-test-requires
 test-requires c κs =
     let at = c .before .before in
     let a = start at .args in
+    let rs = coursesIn (a .col) (a .steps .now) in
     let keeps = start at .pre .1 in (
       start at .pre .0,
       (
-        asked-allowed (a .col) (a .best) (a .from) (a .code) _ _ _ (asked at) keeps,
+        asked-allowed (a .col) rs (a .best) (a .from) (a .code) _ _ _ (asked at) keeps,
         (
-          asked-wanted (a .col) (a .best) (a .from) (a .code) _ _ _ (asked at) keeps,
-          asked-apart (a .col) (a .best) (a .from) (a .code) _ _ _ (asked at) keeps,
+          asked-wanted (a .col) rs (a .best) (a .from) (a .code) _ _ _ (asked at) keeps,
+          asked-apart (a .col) rs (a .best) (a .from) (a .code) _ _ _ (asked at) keeps,
         ),
       ),
     )
@@ -90,7 +93,8 @@ returns c =
     let sized = c .before in
     let at = sized .before .before in
     let a = start at .args in
-    some-earlier (a .col) (a .best) (a .from) (a .code) _ _ _ (asked at) (start at .pre .1) _ (part-size sized .1) (c .test .result .any) (c .test .result .choice)
+    let rs = coursesIn (a .col) (a .steps .now) in
+    some-earlier (a .col) rs (a .best) (a .from) (a .code) _ _ _ (asked at) (start at .pre .1) _ (part-size sized .1) (c .test .result .any) (c .test .result .choice)
     (c .test .ensures)
 
 pub earlier-spec : {M : Type 1} → statement M

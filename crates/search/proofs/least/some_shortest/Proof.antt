@@ -1,78 +1,82 @@
 -- `search::least::some_shortest` tries the lengths in turn: when it comes to a length, every list has at least so many.
+use mathlib.Core.Bool.{false}
 use mathlib.Core.List.{List}
+use mathlib.Core.Path.{subst}
 use Prim.Native.Nat.{ℕ, _+_, _-_, _≤_}
 use native.Mathlib.Omega.{arith}
-use borrow.Author.Needs.{needs}
 use lib.ListN.{length}
 use Rattle.table.specs.Sizes.{maxRow}
 use Rattle.search.specs.Columns.{KeepsIn, coursesIn}
-use Rattle.table.specs.Strips.{AllRight}
-use Rattle.search.specs.Searching.{cellsWith}
-use Rattle.search.proofs.SearchLaws.{gap-right, gap-missing, missing-wrong}
+use Rattle.search.specs.Searching.{Rightness}
 use Rattle.search.proofs.LeastLaws.{nothing-allowed, nothing-out, fullest-allowed, short-none, short-found, longer-none, longer-than}
 use Rattle.search.proofs.least.some_shortest.Statement.{statement}
 use Rattle.search.proofs.least.some_shortest.Tie as tie
 
 abbrev Inv-loop : tie.InvT-loop
-Inv-loop col count empty all left₀ left = (left ≤ maxRow + 1) × ((l : List ℕ) → KeepsIn col l → left ≤ length l)
+Inv-loop col steps empty all left₀ left = (left ≤ maxRow + 1) × ((l : List ℕ) → KeepsIn col (coursesIn col steps) l → left ≤ length l)
 
 abbrev μ-loop : tie.MeasureT-loop
-μ-loop col count empty all left₀ left = maxRow + 1 - left
+μ-loop col steps empty all left₀ left = maxRow + 1 - left
+
+-- where the call began
+abbrev start : tie.After-nothing Inv-loop μ-loop → tie.Start Inv-loop μ-loop
+start c = c .before .before
 
 -- the fact is wrong as it stands
 wrong : (c : tie.Else1 Inv-loop μ-loop)
-    → AllRight (cellsWith (c .before .before .before .args .col) (c .before .before .nothing .result)) (coursesIn (c .before .before .before .args .col))
-    (c .before .before .before .args .col .fact) → ⊥
+    → Rightness (start (c .before .before) .args .col) (coursesIn (start (c .before .before) .args .col) (start (c .before .before) .args .steps .now))
+    (c .before .before .nothing .result) false
 wrong c =
-    let gap = c .before .first-gap in
-    let empty = c .before .before .nothing in
-    let col = c .before .before .before .args .col in
-    λ right.
-    missing-wrong col (empty .result) (gap .result) (gap-missing col (empty .result) (gap .result) (gap .ensures) (c .if1 .left)) (right 0 (omega arith))
+    let empty = c .before .before in
+    let a = start empty .args in
+    let rs = coursesIn (a .col) (a .steps .now) in
+    subst (Rightness (a .col) rs (empty .nothing .result)) (c .if1 .left) (c .before .is-right .ensures)
 
 nothing-requires : tie.Need-nothing-requires Inv-loop μ-loop
-nothing-requires c κs = search needs
+nothing-requires c κs = tt
 
-first-gap-requires : tie.Need-first-gap-requires Inv-loop μ-loop
-first-gap-requires c κs = c .before .pre
+is-right-requires : tie.Need-is-right-requires Inv-loop μ-loop
+is-right-requires c κs = start c .pre
 
 returns : tie.Need-returns Inv-loop μ-loop
 returns c =
-    let gap = c .before .first-gap in
-    let empty = c .before .before .nothing in
-    let col = c .before .before .before .args .col in
-    short-none col (empty .result) (empty .ensures) (λ i h. gap-right col (empty .result) (gap .result) (gap .ensures) (c .if1 .taken))
+    let empty = c .before .before in
+    let a = start empty .args in
+    let rs = coursesIn (a .col) (a .steps .now) in
+    short-none (a .col) rs (empty .nothing .result) (empty .nothing .ensures)
+    (subst (Rightness (a .col) rs (empty .nothing .result)) (c .if1 .taken) (c .before .is-right .ensures))
 
 fullest-requires : tie.Need-fullest-requires Inv-loop μ-loop
-fullest-requires c κs = c .before .before .before .pre
+fullest-requires c κs = start (c .before .before) .pre .actions-high
 
 loop-holds : tie.Need-loop-holds Inv-loop μ-loop
 loop-holds c =
     let failed = c .before in
-    let empty = failed .before .before .nothing in
-    let col = failed .before .before .before .args .col in (
-      omega arith,
-      longer-none col (empty .result) (wrong failed),
-    )
+    let empty = failed .before .before in
+    let a = start empty .args in
+    let rs = coursesIn (a .col) (a .steps .now) in
+    (omega arith, longer-none (a .col) rs (empty .nothing .result) (wrong failed))
 
 test-requires : tie.Need-test-requires Inv-loop μ-loop
 test-requires c κs =
     let all = c .before .before .fullest in
-    let empty = c .before .before .before .before .before .nothing in
-    let at = c .before .before .before .before .before .before in
-    let col = at .args .col in
-    (at .pre, (nothing-allowed col (empty .result) (empty .ensures), (fullest-allowed col (all .result) (all .ensures), nothing-out col (empty .result) (empty .ensures))))
+    let empty = c .before .before .before .before .before in
+    let none = empty .nothing in
+    let col = start empty .args .col in
+    let rs = coursesIn col (start empty .args .steps .now) in
+    (start empty .pre, (nothing-allowed col rs (none .result) (none .ensures), (fullest-allowed col (all .result) (all .ensures), nothing-out col rs (none .result) (none .ensures))))
 
 returns-2 : tie.Need-returns-2 Inv-loop μ-loop
 returns-2 c =
     let found = c .before .test in
     let here = c .before .before .before in
     let failed = here .before .before in
-    let empty = failed .before .before .nothing in
+    let empty = failed .before .before in
     let all = here .before .fullest in
-    let col = failed .before .before .before .args .col in
-    short-found col (empty .result) (all .result) (here .loop .left) (empty .ensures) (all .ensures) (wrong failed) (found .result .any) (found .result .choice)
-    (c .if2 .taken) (omega arith) (here .loop .inv .1) (found .ensures)
+    let a = start empty .args in
+    let rs = coursesIn (a .col) (a .steps .now) in
+    short-found (a .col) rs (empty .nothing .result) (all .result) (here .loop .left) (empty .nothing .ensures) (all .ensures) (wrong failed)
+    (found .result .any) (found .result .choice) (c .if2 .taken) (omega arith) (here .loop .inv .1) (found .ensures)
 
 add-left : tie.Need-add-left Inv-loop μ-loop
 add-left c = omega arith
@@ -85,12 +89,13 @@ loop-again c =
     let found = c .before .test in
     let here = c .before .before .before in
     let failed = here .before .before in
-    let empty = failed .before .before .nothing in
+    let empty = failed .before .before in
     let all = here .before .fullest in
-    let col = failed .before .before .before .args .col in (
+    let a = start empty .args in
+    let rs = coursesIn (a .col) (a .steps .now) in (
       omega arith,
-      longer-than col (empty .result) (all .result) (here .loop .left) (empty .ensures) (all .ensures) (wrong failed) (found .result .any) (found .result .choice)
-          (c .if2 .left) (found .ensures),
+      longer-than (a .col) rs (empty .nothing .result) (all .result) (here .loop .left) (empty .nothing .ensures) (all .ensures)
+          (wrong failed) (found .result .any) (found .result .choice) (c .if2 .left) (found .ensures),
     )
 
 returns-3 : tie.Need-returns-3 Inv-loop μ-loop
@@ -103,7 +108,7 @@ some-shortest-spec =
     Inv-loop
     μ-loop
     nothing-requires
-    first-gap-requires
+    is-right-requires
     returns
     fullest-requires
     loop-holds

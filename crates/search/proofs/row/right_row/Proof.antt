@@ -1,7 +1,9 @@
 -- `search::row::right_row` meets its contract: a law for each of its four answers. Assumes nothing.
+use mathlib.Core.Path.{sym, subst}
 use native.Mathlib.Omega.{arith}
 use borrow.Author.Needs.{needs}
-use Rattle.search.specs.Columns.{ColumnFormed}
+use Rattle.search.specs.Columns.{ColumnFormed, coursesIn}
+use Rattle.search.specs.Searching.{Rightness}
 use Rattle.search.proofs.RowLaws.{outside-row, found-short, found-row, over-row, hopeless-row}
 use Rattle.search.proofs.ViewLaws.{shows-formed}
 use Rattle.search.proofs.row.right_row.Statement.{statement}
@@ -19,35 +21,48 @@ column-of-requires : tie.Need-column-of-requires
 column-of-requires c κs = search needs
 
 -- where the column is at hand: it is formed, and its fact is inside
-formed : (c : tie.After-column-of) → ColumnFormed (c .column-of .result)
+formed : (c : tie.After-column-of) → ColumnFormed (c .column-of .result) (c .before .before .args .t .run .steps)
 formed c =
     let at = c .before .before in
-    shows-formed (at .args .t) (at .pre) (c .column-of .result) (c .column-of .ensures .1)
+    shows-formed (at .args .t) (c .column-of .result) (c .column-of .ensures .1) (at .pre)
+
+-- where the search was made, from the column
+abbrev from : tie.After-shortest → tie.After-column-of
+from c = c .before .before .before
+
+slice-aggregate-shortest : tie.Need-slice-aggregate-shortest
+slice-aggregate-shortest c = sym (c .before .before .before .before .pre .shaped .steps)
 
 shortest-requires : tie.Need-shortest-requires
-shortest-requires c κs = formed c
+shortest-requires c κs = formed (c .before .before)
 
 row-of-choice-requires : tie.Need-row-of-choice-requires
 row-of-choice-requires c κs =
-    let col = c .before .before in (
-      omega (arith, col .before .before .pre .facts-high),
-      found-short (col .column-of .result) (col .before .before .args .f) (c .before .shortest .result .any) (c .before .shortest .result .choice)
-          (col .column-of .ensures .0) (c .if2 .taken) (c .before .shortest .ensures),
+    let search = c .before in
+    let col = from search in
+    let at = col .before .before in (
+      omega (arith, at .pre .facts-high),
+      found-short (col .column-of .result) (coursesIn (col .column-of .result) (at .args .t .run .steps)) (at .args .f) (search .shortest .result .any)
+          (search .shortest .result .choice) (col .column-of .ensures .0) (c .if2 .taken) (search .shortest .ensures),
     )
 
 returns-2 : tie.Need-returns-2
 returns-2 c =
-    let col = c .before .before .before in
+    let search = c .before .before in
+    let col = from search in
     let at = col .before .before in
     found-row (at .args .t) (at .args .f) (c .row-of-choice .result .places) (col .column-of .result) (col .column-of .ensures .0)
-    (col .column-of .ensures .1) (col .before .if1 .left) (c .before .before .shortest .result .any) (c .before .before .shortest .result .choice)
-    (c .before .if2 .taken) (c .before .before .shortest .ensures) (c .row-of-choice .ensures)
+    (col .column-of .ensures .1) (col .before .if1 .left) (search .shortest .result .any) (search .shortest .result .choice)
+    (c .before .if2 .taken) (search .shortest .ensures) (c .row-of-choice .ensures)
+
+slice-aggregate-is-right : tie.Need-slice-aggregate-is-right
+slice-aggregate-is-right c = sym (from (c .before .before) .before .before .pre .shaped .steps)
 
 fullest-requires : tie.Need-fullest-requires
-fullest-requires c κs = formed (c .before .before)
+fullest-requires c κs = formed (from (c .before .before)) .actions-high
 
-first-gap-requires : tie.Need-first-gap-requires
-first-gap-requires c κs = formed (c .before .before .before)
+is-right-requires : tie.Need-is-right-requires
+is-right-requires c κs = formed (from (c .before .before .before))
 
 cast-bare-row : tie.Need-cast-bare-row
 cast-bare-row c = search needs
@@ -63,23 +78,28 @@ bare-row-requires-3 c κs = search needs
 
 returns-3 : tie.Need-returns-3
 returns-3 c =
-    let gap = c .before .before in
-    let col = gap .before .before .before .before in
+    let right = c .before .before in
+    let full = right .before .fullest in
+    let none = right .before .before .before in
+    let search = none .before in
+    let col = from search in
     let at = col .before .before in
-    hopeless-row (at .args .t) (at .args .f) (c .bare-row2 .result .places) (col .column-of .result) (col .column-of .ensures .0)
-    (col .column-of .ensures .1) (col .before .if1 .left) (gap .before .fullest .result) (gap .first-gap .result) (gap .before .fullest .ensures)
-    (gap .first-gap .ensures) (c .before .if3 .taken) (c .bare-row2 .ensures)
+    over-row (at .args .t) (at .args .f) (c .bare-row2 .result .places) (col .column-of .result) (col .column-of .ensures .0)
+    (col .column-of .ensures .1) (col .before .if1 .left) (search .shortest .result .any) (search .shortest .result .choice) (full .result)
+    (none .if2 .left) (search .shortest .ensures) (full .ensures)
+    (subst (Rightness (col .column-of .result) (coursesIn (col .column-of .result) (at .args .t .run .steps)) (full .result)) (c .before .if3 .taken) (right .is-right .ensures))
+    (c .bare-row2 .ensures)
 
 returns-4 : tie.Need-returns-4
 returns-4 c =
-    let gap = c .before .before in
-    let short = gap .before .before .before in
-    let col = short .before in
+    let right = c .before .before in
+    let full = right .before .fullest in
+    let col = from (right .before .before .before .before) in
     let at = col .before .before in
-    over-row (at .args .t) (at .args .f) (c .bare-row3 .result .places) (col .column-of .result) (col .column-of .ensures .0)
-    (col .column-of .ensures .1) (col .before .if1 .left) (short .shortest .result .any) (short .shortest .result .choice)
-    (gap .before .fullest .result) (gap .first-gap .result) (gap .before .before .if2 .left) (short .shortest .ensures)
-    (gap .before .fullest .ensures) (gap .first-gap .ensures) (c .before .if3 .left) (c .bare-row3 .ensures)
+    hopeless-row (at .args .t) (at .args .f) (c .bare-row3 .result .places) (col .column-of .result) (col .column-of .ensures .0)
+    (col .column-of .ensures .1) (col .before .if1 .left) (full .result) (full .ensures)
+    (subst (Rightness (col .column-of .result) (coursesIn (col .column-of .result) (at .args .t .run .steps)) (full .result)) (c .before .if3 .left) (right .is-right .ensures))
+    (c .bare-row3 .ensures)
 
 pub right-row-spec : {M : Type 1} → statement M
 right-row-spec =
@@ -88,11 +108,13 @@ right-row-spec =
     bare-row-requires
     returns
     column-of-requires
+    slice-aggregate-shortest
     shortest-requires
     row-of-choice-requires
     returns-2
+    slice-aggregate-is-right
     fullest-requires
-    first-gap-requires
+    is-right-requires
     cast-bare-row
     bare-row-requires-2
     cast-bare-row-2
