@@ -1,5 +1,5 @@
 -- Laws of applying a list: numbers made one after another are made at once; the answer is the only one; a well-formed task stays well
--- formed, and a list that works makes the run valid. Assumes nothing.
+-- formed, and a list that works makes every run valid. Assumes nothing.
 use mathlib.Core.Bool.{Bool, true, false, _&&_, _||_, cond, or-false, and-false, and-or-distrib-left}
 use mathlib.Core.List.{List, [], _∷_}
 use mathlib.Core.Path.{_≡_, refl, sym, ap, _∙_, subst}
@@ -23,9 +23,9 @@ use Rattle.table.specs.Order.{isIn}
 use Rattle.table.specs.Refusals.{Refusal, none, accepted, notWellFormed, listNotPermitted, firstOf}
 use Rattle.table.specs.Repairs.{dropDelete, addEffect, dropNeed, numberOf, factOf, kindOf, actionOf, permitted, chosen, repaired}
 use Rattle.table.specs.Sizes.{maxActions, kinds}
-use Rattle.table.specs.Strips.{Cells, Valid}
-use Rattle.table.specs.Tasks.{cellsOf, courseOf, maskOf, WorksFor, formed, Shaped, WellFormed}
-use Rattle.table.specs.declared.Run.{Run}
+use Rattle.table.specs.Strips.{Cells, AllValid}
+use Rattle.table.specs.Tasks.{cellsOf, startOf, goalOf, courseOf, coursesOf, maskOf, WorksFor, formed, Shaped, WellFormed}
+use Rattle.table.specs.declared.Runs.{Runs}
 use Rattle.table.specs.declared.Table.{Table}
 use Rattle.table.specs.declared.Task.{Task}
 use Rattle.apply.specs.Applying.{firstWrong, applyRefusal, AppliedTo, Applies}
@@ -122,7 +122,7 @@ applied-cell t l u d a g =
 
 -- "Applying a list changes all its cells at once", and so does making its numbers one after another
 pub made-applied : (t : Task) (l : List ℕ) → Shaped t → ((j : ℕ) → j < length l → factOf (getD l j 0) < width)
-    → AppliedTo t l (record { table = oneByOne (t .table) l (length l); run = t .run })
+    → AppliedTo t l (record { table = oneByOne (t .table) l (length l); runs = t .runs })
 unfolding cellsOf
 made-applied t l s fits =
     let long = shaped-long t s in
@@ -134,7 +134,7 @@ made-applied t l s fits =
     ap (λ (w : List ℕ). cond (chosen (isIn w) g k a) (eqb k addEffect) (has (maskOf (t .table) k a) g)) (take-length l) in
     record {
       shaped = long-shaped (oneByOne (t .table) l (length l)) t (long-oneByOne (t .table) long l (length l)) s;
-      run = refl;
+      runs = refl;
       facts = sizes .0;
       actions = sizes .1;
       limit = sizes .2;
@@ -150,8 +150,8 @@ applied-unique t l u v d e =
     let table =
     same-table u v (d .shaped) (e .shaped) (λ k a f hk. applied-cell t l u d a f k hk ∙ sym (applied-cell t l v e a f k hk))
     (d .facts ∙ sym (e .facts)) (d .actions ∙ sym (e .actions)) (d .limit ∙ sym (e .limit)) in
-    let run = d .run ∙ sym (e .run) in
-    λ i. record { table = table i; run = run i }
+    let runs = d .runs ∙ sym (e .runs) in
+    λ i. record { table = table i; runs = runs i }
 
 -- a list that is permitted chooses no cell outside the task
 chosen-outside : (c : Cells) (l : List ℕ) → Permitted c l → (g k a : ℕ) → k < kinds → (g < c .facts → a < c .actions → ⊥) → chosen (isIn l) g k a ≡ false
@@ -173,30 +173,31 @@ applied-well t l u w p d =
         facts = d .facts;
         actions = d .actions;
         limit = d .limit;
-        count = ap (λ (r : Run). r .count) (d .run);
-        steps = ap (λ (r : Run). r .steps) (d .run);
+        many = ap (λ (r : Runs). r .many) (d .runs);
+        counts = ap (λ (r : Runs). r .counts) (d .runs);
+        steps = ap (λ (r : Runs). r .steps) (d .runs);
       };
       cell = λ k a g hk out.
           applied-cell t l u d a g k hk ∙
           ap (λ (b : Bool). cond b (eqb k addEffect) (has (maskOf (t .table) k a) g)) (chosen-outside (cellsOf (t .table)) l p g k a hk out);
-      start = λ g h. ap (λ (r : Run). has (r .start) g) (d .run);
-      goal = λ g h. ap (λ (r : Run). has (r .goal) g) (d .run);
+      start = λ i g _. ap (λ (r : Runs). has (startOf r i) g) (d .runs);
+      goal = λ i g _. ap (λ (r : Runs). has (goalOf r i) g) (d .runs);
     })
 
--- a list that works, applied, gives a task whose run is valid as it stands
-pub applied-valid : (t : Task) (l : List ℕ) (u : Task) → AppliedTo t l u → WorksFor t l → Valid (cellsOf (u .table)) (courseOf (u .run))
+-- a list that works, applied, gives a task whose runs are valid as it stands
+pub applied-valid : (t : Task) (l : List ℕ) (u : Task) → AppliedTo t l u → WorksFor t l → AllValid (cellsOf (u .table)) (coursesOf u)
 applied-valid t l u d w =
     let c = repaired (cellsOf (t .table)) (isIn l) in
-    let r = courseOf (t .run) in
-    subst (λ (x : Run). Valid (cellsOf (u .table)) (courseOf x)) (sym (d .run))
-    (right-valid (cellsOf (u .table)) r (λ f.
+    subst (λ (x : Runs). AllValid (cellsOf (u .table)) (record { many = x .many; course = courseOf x })) (sym (d .runs)) (λ i low.
+    let r = courseOf (t .runs) i in
+    right-valid (cellsOf (u .table)) r (λ f.
     right-same f r r c (cellsOf (u .table))
     (record {
-      needs = λ i h. sym (d .needs (r .step i) f);
-      adds = λ i h. sym (d .adds (r .step i) f);
-      deletes = λ i h. sym (d .deletes (r .step i) f);
+      needs = λ j h. sym (d .needs (r .step j) f);
+      adds = λ j h. sym (d .adds (r .step j) f);
+      deletes = λ j h. sym (d .deletes (r .step j) f);
     })
-    (sameCourse-refl f r) (valid-right c r (w .valid 0 (omega arith)) f)))
+    (sameCourse-refl f r) (valid-right c r (w .valid i low) f)))
 
 -- ---- the three ways out of `apply`
 
@@ -224,14 +225,14 @@ unfolding applyRefusal firstOf
 applies-wrong t l wrong first e h = refuses t l listNotPermitted wrong (λ z. omega arith) (rw (e, ← first, lt-ltb wrong (length l) h))
 
 pub applies-made : (t : Task) (l : List ℕ) (u : Table) → u ≡ oneByOne (t .table) l (length l) → Shaped t → formed t ≡ true
-    → length l ≤ firstWrong (cellsOf (t .table)) l → Applies t l (record { number = accepted; place = 0; task = record { table = u; run = t .run } })
+    → length l ≤ firstWrong (cellsOf (t .table)) l → Applies t l (record { number = accepted; place = 0; task = record { table = u; runs = t .runs } })
 unfolding cellsOf
 applies-made t l u made s e h = record {
   number = ap (λ (r : Refusal). r .number) (sym (not-refused t l e h));
   place = ap (λ (r : Refusal). r .place) (sym (not-refused t l e h));
   refused = λ z. absurd (z refl);
   applied = λ _.
-      subst (λ (v : Table). AppliedTo t l (record { table = v; run = t .run })) (sym made)
+      subst (λ (v : Table). AppliedTo t l (record { table = v; runs = t .runs })) (sym made)
       (made-applied t l s (λ j m. omega (arith, permitted-inside (cellsOf (t .table)) (getD l j 0) (allowed j m) .0, w .facts-high)));
 }
   where

@@ -31,11 +31,11 @@ applyRefusal t l =
     wrong : ℕ
     wrong = firstWrong (cellsOf (t .table)) l
 
--- The task u is t with the list applied, all cells at once (001, Definition 2): sizes and run as they were, and each
+-- The task u is t with the list applied, all cells at once (001, Definition 2): sizes and runs as they were, and each
 -- cell that of the repaired table.
 pub record AppliedTo (t : Task) (l : List ℕ) (u : Task) : Type 0 where
   pub shaped : Shaped u
-  pub run : u .run ≡ t .run
+  pub runs : u .runs ≡ t .runs
   pub facts : u .table .facts ≡ t .table .facts
   pub actions : u .table .actions ≡ t .table .actions
   pub limit : u .table .limit ≡ t .table .limit

@@ -82,7 +82,7 @@ pub fn apply(t: Task, list: &[u16]) -> TaskReply
         };
     }
     let before = t.table;
-    let run = t.run;
+    let runs = t.runs;
     let wrong = first_wrong(before, list);
     if wrong < list.len() {
         return TaskReply {
@@ -92,7 +92,7 @@ pub fn apply(t: Task, list: &[u16]) -> TaskReply
         };
     }
     let table = make_all(before, list);
-    let task = Task { table, run };
+    let task = Task { table, runs };
     TaskReply {
         number: refusals::ACCEPTED,
         place: 0,

@@ -28,6 +28,13 @@ abbrev Reading : {K : Type 0} → (K → Lent × (Lent × Unit {0}) → ℕ → 
 Reading Post read answer =
     Call {I = List ℕ × List ℕ} {O = ℕ × List ℕ} Post (λ a. (now (a .0), now (a .1 .0))) (λ r b. (r, now (b .1 .0))) (read, answer)
 
+-- The same with a number that says where: a place of a file, a run of a task.
+abbrev ReadingAt : {K : Type 0} → (K → Lent × (ℕ × (Lent × Unit {0})) → ℕ → Lent × (ℕ × (Lent × Unit {0})) → Type 0)
+    → List ℕ → ℕ → List ℕ → ℕ × List ℕ → Type 0
+ReadingAt Post read at answer =
+    Call {I = List ℕ × ℕ × List ℕ} {O = ℕ × List ℕ} Post (λ a. (now (a .0), a .1 .0, now (a .1 .1 .0))) (λ r b. (r, now (b .1 .1 .0)))
+    (read, at, answer)
+
 -- One to be read, one to be filled, and the answer's words.
 abbrev Filling : {K : Type 0} → (K → Lent × (Lent × (Lent × Unit {0})) → ℕ → Lent × (Lent × (Lent × Unit {0})) → Type 0)
     → List ℕ → List ℕ → List ℕ → ℕ × List ℕ × List ℕ → Type 0
@@ -38,9 +45,7 @@ Filling Post read room answer =
 -- ---- each function
 
 abbrev pub ZpRecordGives : List ℕ → ℕ → List ℕ → ℕ × List ℕ → Type 0
-ZpRecordGives file at answer =
-    Call {I = List ℕ × ℕ × List ℕ} {O = ℕ × List ℕ} zp-record.Post (λ a. (now (a .0), a .1 .0, now (a .1 .1 .0))) (λ r b. (r, now (b .1 .1 .0)))
-    (file, at, answer)
+ZpRecordGives = ReadingAt zp-record.Post
 
 pub zp-record-gives : (file : List ℕ) (at : ℕ) (answer : List ℕ) (o : ℕ × List ℕ) → ZpRecordGives file at answer o
     → HandsRecord file at answer (o .1) (o .0)
@@ -52,11 +57,12 @@ ZpReadGives = Reading zp-read.Post
 pub zp-read-gives : (file answer : List ℕ) (o : ℕ × List ℕ) → ZpReadGives file answer o → ReadsTask file answer (o .1) (o .0)
 zp-read-gives file answer = call-keeps (λ i o. ReadsTask (i .0) (i .1) (o .1) (o .0)) (λ k a r b p. p) (file, answer)
 
-abbrev pub ZpCheckGives : List ℕ → List ℕ → ℕ × List ℕ → Type 0
-ZpCheckGives = Reading zp-check.Post
+abbrev pub ZpCheckGives : List ℕ → ℕ → List ℕ → ℕ × List ℕ → Type 0
+ZpCheckGives = ReadingAt zp-check.Post
 
-pub zp-check-gives : (ws answer : List ℕ) (o : ℕ × List ℕ) → ZpCheckGives ws answer o → ChecksRun ws answer (o .1) (o .0)
-zp-check-gives ws answer = call-keeps (λ i o. ChecksRun (i .0) (i .1) (o .1) (o .0)) (λ k a r b p. p) (ws, answer)
+pub zp-check-gives : (ws : List ℕ) (run : ℕ) (answer : List ℕ) (o : ℕ × List ℕ) → ZpCheckGives ws run answer o
+    → ChecksRun ws run answer (o .1) (o .0)
+zp-check-gives ws run answer = call-keeps (λ i o. ChecksRun (i .0) (i .1) (i .2) (o .1) (o .0)) (λ k a r b p. p) (ws, run, answer)
 
 abbrev pub ZpWriteGives : List ℕ → List ℕ → List ℕ → ℕ × List ℕ × List ℕ → Type 0
 ZpWriteGives = Filling zp-write.Post
@@ -104,16 +110,16 @@ pub zp-apply-gives : (ws list answer : List ℕ) (o : ℕ × List ℕ × List �
 zp-apply-gives ws list answer = call-keeps (λ i o. AppliesList (i .0) (o .2) (i .1) (i .2) (o .1) (o .0)) (λ k a r b p. p) (ws, list, answer)
 
 abbrev pub ZpEditGives : List ℕ → ℕ → ℕ → ℕ → ℕ → List ℕ → List ℕ → ℕ × List ℕ × List ℕ × List ℕ → Type 0
-ZpEditGives ws kind action fact present table answer =
+ZpEditGives ws kind whose fact present table answer =
     Call {I = List ℕ × ℕ × ℕ × ℕ × ℕ × List ℕ × List ℕ} {O = ℕ × List ℕ × List ℕ × List ℕ} zp-edit.Post
     (λ a. (now (a .0), a .1 .0, a .1 .1 .0, a .1 .1 .1 .0, a .1 .1 .1 .1 .0, now (a .1 .1 .1 .1 .1 .0), now (a .1 .1 .1 .1 .1 .1 .0)))
-    (λ r b. (r, now (b .1 .1 .1 .1 .1 .1 .0), now (b .0), now (b .1 .1 .1 .1 .1 .0))) (ws, kind, action, fact, present, table, answer)
+    (λ r b. (r, now (b .1 .1 .1 .1 .1 .1 .0), now (b .0), now (b .1 .1 .1 .1 .1 .0))) (ws, kind, whose, fact, present, table, answer)
 
-pub zp-edit-gives : (ws : List ℕ) (kind action fact present : ℕ) (table answer : List ℕ) (o : ℕ × List ℕ × List ℕ × List ℕ)
-    → ZpEditGives ws kind action fact present table answer o → EditsSession ws (o .2) kind action fact present table (o .3) answer (o .1) (o .0)
-zp-edit-gives ws kind action fact present table answer =
+pub zp-edit-gives : (ws : List ℕ) (kind whose fact present : ℕ) (table answer : List ℕ) (o : ℕ × List ℕ × List ℕ × List ℕ)
+    → ZpEditGives ws kind whose fact present table answer o → EditsSession ws (o .2) kind whose fact present table (o .3) answer (o .1) (o .0)
+zp-edit-gives ws kind whose fact present table answer =
     call-keeps (λ i o. EditsSession (i .0) (o .2) (i .1) (i .2) (i .3) (i .4) (i .5) (o .3) (i .6) (o .1) (o .0)) (λ k a r b p. p)
-    (ws, kind, action, fact, present, table, answer)
+    (ws, kind, whose, fact, present, table, answer)
 
 -- ---- none asks anything of its caller
 

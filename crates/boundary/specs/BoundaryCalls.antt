@@ -41,8 +41,9 @@ ReadsTask file =
 unfoldable pub WritesTask : List ℕ → List ℕ → List ℕ → List ℕ → List ℕ → ℕ → Type 0
 WritesTask ws room after = AnswersOutcome room after (λ o. o ≡ written (taskIn ws) room)
 
-unfoldable pub ChecksRun : List ℕ → List ℕ → List ℕ → ℕ → Type 0
-ChecksRun ws = Answers checkedLength Nothing (λ words. words ≡ checkedWords (checked (taskIn ws)))
+-- "a run check names its run" (02, request 1)
+unfoldable pub ChecksRun : List ℕ → ℕ → List ℕ → List ℕ → ℕ → Type 0
+ChecksRun ws run = Answers checkedLength Nothing (λ words. words ≡ checkedWords (checked (taskIn ws) run))
 
 -- The task's words are ws before the call and `left` after it.
 unfoldable pub AppliesList : List ℕ → List ℕ → List ℕ → List ℕ → List ℕ → ℕ → Type 0
@@ -59,11 +60,11 @@ unfoldable pub OpensSession : List ℕ → List ℕ → List ℕ → List ℕ �
 OpensSession ws table after = AnswersReply table after (λ y. Opens (taskIn ws) table y after)
 
 unfoldable pub EditsSession : List ℕ → List ℕ → ℕ → ℕ → ℕ → ℕ → List ℕ → List ℕ → List ℕ → List ℕ → ℕ → Type 0
-EditsSession ws left kind action fact present table after =
+EditsSession ws left kind whose fact present table after =
     Answers changedLength ((left ≡ ws) × (after ≡ table))
     (λ words.
     (y : TaskReply) ×
-    (Edits (taskIn ws) table (editOf kind action fact present) y after × (left ≡ lentBack ws (y .number) (y .task))) ×
+    (Edits (taskIn ws) table (editOf kind whose fact present) y after × (left ≡ lentBack ws (y .number) (y .task))) ×
     (words ≡ changedWords (y .number) (y .place)))
 
 unfoldable pub ListsSession : List ℕ → List ℕ → List ℕ → List ℕ → List ℕ → List ℕ → ℕ → Type 0

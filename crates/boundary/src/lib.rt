@@ -1,5 +1,5 @@
 // The boundary: every public call as an `extern "C"` function on numbers and slices, for callers in C and in Rust
-// (docs/BOUNDARY.md). A task crosses as 166 words, an answer as words in lent room; where that room is too short nothing
+// (docs/BOUNDARY.md). A task crosses as 636 words, an answer as words in lent room; where that room is too short nothing
 // is called, and the answer is 255. A task that a call changes is lent in and out.
 use apply::apply;
 use listing::listing;
@@ -75,16 +75,16 @@ pub extern "C" fn zp_write(task: &[u64], room: &mut [u8], answer: &mut [u64]) ->
     give_reply(reply, answer)
 }
 
-// The run check.
+// The run check of the run named.
 #[no_mangle]
-pub extern "C" fn zp_check(task: &[u64], answer: &mut [u64]) -> usize
-    ensures { λ r. ⌜ ChecksRun (now (task .entry)) (now (answer .entry)) (now (answer .exit)) r ⌝ }
+pub extern "C" fn zp_check(task: &[u64], run: usize, answer: &mut [u64]) -> usize
+    ensures { λ r. ⌜ ChecksRun (now (task .entry)) run (now (answer .entry)) (now (answer .exit)) r ⌝ }
 {
     if answer.len() < CHECKED_WORDS {
         return ANSWER_TOO_SHORT;
     }
     let t = task_in(task);
-    let found = check_run(t);
+    let found = check_run(t, run);
     give_checked(found, answer)
 }
 
@@ -132,26 +132,27 @@ pub extern "C" fn zp_open(task: &[u64], table: &mut [u16], answer: &mut [u64]) -
     give_reply(reply, answer)
 }
 
-// One cell set in the task's words, and its fact's row written afresh.
+// One cell set in the task's words, and its fact's row written afresh. `whose` is the action of a need, an add or a delete, and the run
+// of a start or a goal.
 #[no_mangle]
 pub extern "C" fn zp_edit(
     task: &mut [u64],
     kind: usize,
-    action: usize,
+    whose: usize,
     fact: usize,
     present: usize,
     table: &mut [u16],
     answer: &mut [u64],
 ) -> usize
     ensures { λ r.
-        ⌜ EditsSession (now (task .entry)) (now (task .exit)) kind action fact present (now (table .entry)) (now (table .exit))
+        ⌜ EditsSession (now (task .entry)) (now (task .exit)) kind whose fact present (now (table .entry)) (now (table .exit))
         (now (answer .entry)) (now (answer .exit)) r ⌝ }
 {
     if answer.len() < CHANGED_WORDS {
         return ANSWER_TOO_SHORT;
     }
     let t = task_in(task);
-    let e = edit_of(kind, action, fact, present);
+    let e = edit_of(kind, whose, fact, present);
     let done = edit(t, table, e);
     let edited = done.task;
     give_back(done.number, edited, task);

@@ -6,16 +6,18 @@ use mathlib.Core.Path.{_≡_, refl, sym, ap, _∙_}
 use Prim.Native.Nat.{ℕ, _<_}
 use native.Mathlib.Omega.{arith}
 use lib.Dec.{eqb, ltb}
-use borrow.Author.Tests.{ltb-true, eqb-true, eq-eqb, ne-eqb}
-use Rattle.facts.specs.Sets.{width, has}
+use lib.ListN.{length, getD, length-set}
+use lib.Seq.{ext-getD}
+use borrow.Author.Tests.{ltb-true, eqb-true, eq-eqb}
+use Rattle.facts.specs.Sets.{has}
 use Rattle.facts.proofs.Laws.{same-sets}
 use Rattle.table.proofs.RepairNumbers.{kind-cases}
-use Rattle.table.proofs.SettingLaws.{has-setFact}
+use Rattle.table.proofs.SettingLaws.{has-setIn}
 use Rattle.table.proofs.FlagLaws.{both, and-both}
 use Rattle.table.specs.Repairs.{dropDelete, addEffect, dropNeed, byKind}
-use Rattle.table.specs.Sizes.{kinds}
-use Rattle.table.specs.Setting.{setFact}
-use Rattle.table.specs.Tasks.{cellsOf, courseOf, maskOf, KeepsFor, WellFormed}
+use Rattle.table.specs.Sizes.{kinds, maxRuns}
+use Rattle.table.specs.Setting.{setFact, setIn}
+use Rattle.table.specs.Tasks.{cellsOf, startOf, goalOf, courseOf, maskOf, KeepsFor, WellFormed}
 use Rattle.table.specs.declared.Task.{Task}
 use Rattle.change.specs.Editing.{setCell, edited, cellFact, cellInside, cellValue, EditedTo}
 use Rattle.change.specs.Kinds.{kindSet}
@@ -47,20 +49,20 @@ kind-inside t a f = kind-cases (λ k. (ltb a (t .table .actions) && ltb f (t .ta
 -- a property of the kinds' cells, of the start and of the goal, each of which is not c, is one of every cell that is not c
 other-cells : (t u : Task) (c : Cell)
     → ((j b g : ℕ) → j < kinds → (kindCell j b g ≡ c → ⊥) → has (maskOf (u .table) j b) g ≡ has (maskOf (t .table) j b) g)
-    → ((g : ℕ) → (Start g ≡ c → ⊥) → has (u .run .start) g ≡ has (t .run .start) g)
-    → ((g : ℕ) → (Goal g ≡ c → ⊥) → has (u .run .goal) g ≡ has (t .run .goal) g)
+    → ((r g : ℕ) → (Start r g ≡ c → ⊥) → has (startOf (u .runs) r) g ≡ has (startOf (t .runs) r) g)
+    → ((r g : ℕ) → (Goal r g ≡ c → ⊥) → has (goalOf (u .runs) r) g ≡ has (goalOf (t .runs) r) g)
     → (d : Cell) → (d ≡ c → ⊥) → cellValue u d ≡ cellValue t d
 unfolding cellValue cellsOf courseOf
 other-cells t u c kind start goal (Need b g) other = kind dropNeed b g (omega arith) other
 other-cells t u c kind start goal (Add b g) other = kind addEffect b g (omega arith) other
 other-cells t u c kind start goal (Delete b g) other = kind dropDelete b g (omega arith) other
-other-cells t u c kind start goal (Start g) other = start g other
-other-cells t u c kind start goal (Goal g) other = goal g other
+other-cells t u c kind start goal (Start r g) other = start r g other
+other-cells t u c kind start goal (Goal r g) other = goal r g other
 
 module _ (t : Task) (w : WellFormed t) where
   module _ (a f : ℕ) (p : Bool) (inside : (ltb a (t .table .actions) && ltb f (t .table .facts)) ≡ true) (k : ℕ) (hk : k < kinds) where
     abbrev kindEdited : Task
-    kindEdited = record { table = kindSet (t .table) k a f p; run = t .run }
+    kindEdited = record { table = kindSet (t .table) k a f p; runs = t .runs }
 
     kind-value : (j b g : ℕ) → j < kinds
         → has (maskOf (kindSet (t .table) k a f p) j b) g ≡ cond (eqb j k && eqb b a && eqb g f) p (has (maskOf (t .table) j b) g)
@@ -94,59 +96,92 @@ module _ (t : Task) (w : WellFormed t) where
           facts = same .0;
           actions = same .1;
           limit = same .2;
-          count = refl;
+          many = refl;
+          counts = refl;
           steps = refl;
           named = kind-sets;
-          others = other-cells t kindEdited (kindCell k a f) kind-keeps (λ g _. refl) (λ g _. refl);
+          others = other-cells t kindEdited (kindCell k a f) kind-keeps (λ r g _. refl) (λ r g _. refl);
         }
 
-  -- a start or goal fact
-  abbrev runSet : ℕ → ℕ → Task
-  runSet m n = record { table = t .table; run = record { start = m; goal = n; count = t .run .count; steps = t .run .steps } }
+  -- a start or goal fact of a run
+  abbrev runsSet : List ℕ → List ℕ → Task
+  runsSet m n = record {
+    table = t .table;
+    runs = record { many = t .runs .many; starts = m; goals = n; counts = t .runs .counts; steps = t .runs .steps };
+  }
 
-  run-exactly : (c : Cell) (p : Bool) (m n : ℕ) → cellValue (runSet m n) c ≡ p
-      → ((g : ℕ) → (Start g ≡ c → ⊥) → has m g ≡ has (t .run .start) g) → ((g : ℕ) → (Goal g ≡ c → ⊥) → has n g ≡ has (t .run .goal) g)
-      → EditedTo t (record { cell = c; present = p }) (runSet m n)
-  run-exactly c p m n named start goal = record {
-    shaped = record { needs = w .shaped .needs; adds = w .shaped .adds; deletes = w .shaped .deletes; steps = w .shaped .steps };
+  runs-exactly : (c : Cell) (p : Bool) (m n : List ℕ) → length m ≡ maxRuns → length n ≡ maxRuns → cellValue (runsSet m n) c ≡ p
+      → ((r g : ℕ) → (Start r g ≡ c → ⊥) → has (getD m r 0) g ≡ has (startOf (t .runs) r) g)
+      → ((r g : ℕ) → (Goal r g ≡ c → ⊥) → has (getD n r 0) g ≡ has (goalOf (t .runs) r) g)
+      → EditedTo t (record { cell = c; present = p }) (runsSet m n)
+  runs-exactly c p m n long also named start goal = record {
+    shaped = record {
+      needs = w .shaped .needs;
+      adds = w .shaped .adds;
+      deletes = w .shaped .deletes;
+      starts = long;
+      goals = also;
+      counts = w .shaped .counts;
+      steps = w .shaped .steps;
+    };
     facts = refl;
     actions = refl;
     limit = refl;
-    count = refl;
+    many = refl;
+    counts = refl;
     steps = refl;
     named = named;
-    others = other-cells t (runSet m n) c (λ j b g _ _. refl) start goal;
+    others = other-cells t (runsSet m n) c (λ j b g _ _. refl) start goal;
   }
 
-  module _ (f : ℕ) (p : Bool) (inside : ltb f (t .table .facts) ≡ true) where
-    low : f < width
-    low = omega (arith, ltb-true f (t .table .facts) inside, w .facts-high)
+  module _ (r f : ℕ) (p : Bool) (inside : (ltb r (t .runs .many) && ltb f (t .table .facts)) ≡ true) where
+    -- the start or goal sets of all runs, with the one cell set
+    set-value : (sets : List ℕ) → length sets ≡ maxRuns → (q g : ℕ)
+        → has (getD (setIn sets r f p) q 0) g ≡ cond (eqb q r && eqb g f) p (has (getD sets q 0) g)
+    set-value sets long q g =
+        let low = both (ltb r (t .runs .many)) (ltb f (t .table .facts)) inside in
+        has-setIn sets r f p q g (omega (arith, ltb-true r (t .runs .many) (low .0), w .many-high))
+        (omega (arith, ltb-true f (t .table .facts) (low .1), w .facts-high))
 
-    fact-sets : (m : ℕ) → has (setFact m f p) f ≡ p
-    fact-sets m = has-setFact m f p f low ∙ ap (λ (b : Bool). cond b p (has m f)) (eq-eqb f f refl)
+    set-sets : (sets : List ℕ) → length sets ≡ maxRuns → has (getD (setIn sets r f p) r 0) f ≡ p
+    set-sets sets long =
+        set-value sets long r f ∙
+        ap (λ (b : Bool). cond b p (has (getD sets r 0) f)) (and-both _ _ (eq-eqb r r refl) (eq-eqb f f refl))
 
-    fact-keeps : (m g : ℕ) → (g ≡ f → ⊥) → has (setFact m f p) g ≡ has m g
-    fact-keeps m g other = has-setFact m f p g low ∙ ap (λ (b : Bool). cond b p (has m g)) (ne-eqb g f other)
+    -- the cells of the sets are C's
+    set-keeps : (C : ℕ → ℕ → Cell) (sets : List ℕ) → length sets ≡ maxRuns → (q g : ℕ) → (C q g ≡ C r f → ⊥)
+        → has (getD (setIn sets r f p) q 0) g ≡ has (getD sets q 0) g
+    set-keeps C sets long q g other = set-value sets long q g ∙ pick (eqb q r) refl (eqb g f) refl
+      where
+        pick : (x : Bool) → eqb q r ≡ x → (y : Bool) → eqb g f ≡ y → cond (x && y) p (has (getD sets q 0) g) ≡ has (getD sets q 0) g
+        pick true ex true ey = absurd (other (λ i. C (eqb-true q r ex i) (eqb-true g f ey i)))
+        pick true ex false ey = refl
+        pick false ex y ey = refl
 
-    start-exactly : EditedTo t (record { cell = Start f; present = p }) (setCell t (Start f) p)
+    set-long : (sets : List ℕ) → length sets ≡ maxRuns → length (setIn sets r f p) ≡ maxRuns
+    set-long sets long = length-set sets r (setFact (getD sets r 0) f p) ∙ long
+
+    start-exactly : EditedTo t (record { cell = Start r f; present = p }) (setCell t (Start r f) p)
     unfolding cellValue setCell courseOf
     start-exactly =
-        run-exactly (Start f) p (setFact (t .run .start) f p) (t .run .goal) (fact-sets (t .run .start))
-        (λ g other. fact-keeps (t .run .start) g (λ e. other (ap Start e))) (λ g _. refl)
+        let long = w .shaped .starts in
+        runs-exactly (Start r f) p (setIn (t .runs .starts) r f p) (t .runs .goals) (set-long (t .runs .starts) long) (w .shaped .goals)
+        (set-sets (t .runs .starts) long) (set-keeps Start (t .runs .starts) long) (λ q g _. refl)
 
-    goal-exactly : EditedTo t (record { cell = Goal f; present = p }) (setCell t (Goal f) p)
+    goal-exactly : EditedTo t (record { cell = Goal r f; present = p }) (setCell t (Goal r f) p)
     unfolding cellValue setCell courseOf
     goal-exactly =
-        run-exactly (Goal f) p (t .run .start) (setFact (t .run .goal) f p) (fact-sets (t .run .goal)) (λ g _. refl)
-        (λ g other. fact-keeps (t .run .goal) g (λ e. other (ap Goal e)))
+        let long = w .shaped .goals in
+        runs-exactly (Goal r f) p (t .runs .starts) (setIn (t .runs .goals) r f p) (w .shaped .starts) (set-long (t .runs .goals) long)
+        (set-sets (t .runs .goals) long) (λ q g _. refl) (set-keeps Goal (t .runs .goals) long)
 
   cell-exactly : (c : Cell) (p : Bool) → cellInside t c ≡ true → EditedTo t (record { cell = c; present = p }) (setCell t c p)
   unfolding setCell cellInside kindSet
   cell-exactly (Need a f) p h = kind-exactly a f p h dropNeed (omega arith)
   cell-exactly (Add a f) p h = kind-exactly a f p h addEffect (omega arith)
   cell-exactly (Delete a f) p h = kind-exactly a f p h dropDelete (omega arith)
-  cell-exactly (Start f) p h = start-exactly f p h
-  cell-exactly (Goal f) p h = goal-exactly f p h
+  cell-exactly (Start r f) p h = start-exactly r f p h
+  cell-exactly (Goal r f) p h = goal-exactly r f p h
 
 pub edited-exactly : (t : Task) (e : Edit) → WellFormed t → cellInside t (e .cell) ≡ true → EditedTo t e (edited t e)
 edited-exactly t e w inside = cell-exactly t w (e .cell) (e .present) inside
@@ -174,17 +209,25 @@ edited-only t e u v d b =
     same-table u v (d .shaped) (b .shaped)
     (λ k a f hk. sym (kind-cell u a f k hk) ∙ cell (kindCell k a f) ∙ kind-cell v a f k hk)
     (d .facts ∙ sym (b .facts)) (d .actions ∙ sym (b .actions)) (d .limit ∙ sym (b .limit)) in
-    let start = same-sets (u .run .start) (v .run .start) (λ f. cell (Start f)) in
-    let goal = same-sets (u .run .goal) (v .run .goal) (λ f. cell (Goal f)) in
-    let count = d .count ∙ sym (b .count) in
+    let starts =
+    ext-getD 0 (u .runs .starts) (v .runs .starts) (d .shaped .starts ∙ sym (b .shaped .starts)) (λ r _.
+    same-sets (startOf (u .runs) r) (startOf (v .runs) r) (λ f. cell (Start r f))) in
+    let goals =
+    ext-getD 0 (u .runs .goals) (v .runs .goals) (d .shaped .goals ∙ sym (b .shaped .goals)) (λ r _.
+    same-sets (goalOf (u .runs) r) (goalOf (v .runs) r) (λ f. cell (Goal r f))) in
+    let many = d .many ∙ sym (b .many) in
+    let counts = d .counts ∙ sym (b .counts) in
     let steps = d .steps ∙ sym (b .steps) in
-    λ i. record { table = table i; run = record { start = start i; goal = goal i; count = count i; steps = steps i } }
+    λ i. record {
+      table = table i;
+      runs = record { many = many i; starts = starts i; goals = goals i; counts = counts i; steps = steps i };
+    }
 
 -- ---- what the session reads off
 
 module _ (t : Task) (e : Edit) (u : Task) (d : EditedTo t e u) where
   edited-sizes : SameSizes t u
-  edited-sizes = record { facts = d .facts; actions = d .actions; limit = d .limit; count = d .count; steps = d .steps }
+  edited-sizes = record { facts = d .facts; actions = d .actions; limit = d .limit; many = d .many; counts = d .counts; steps = d .steps }
 
   edited-cell : (k a f : ℕ) → k < kinds → (kindCell k a f ≡ e .cell → ⊥) → has (maskOf (u .table) k a) f ≡ has (maskOf (t .table) k a) f
   edited-cell k a f hk other = sym (kind-cell u a f k hk) ∙ d .others (kindCell k a f) other ∙ kind-cell t a f k hk
@@ -200,9 +243,14 @@ module _ (t : Task) (e : Edit) (u : Task) (d : EditedTo t e u) where
         cell = λ k a g hk out. edited-cell k a g hk (λ same.
             let low = both (ltb a (t .table .actions)) (ltb g (t .table .facts)) (kind-inside t a g k hk ∙ ap (cellInside t) same ∙ inside) in
             out (ltb-true g (t .table .facts) (low .1)) (ltb-true a (t .table .actions) (low .0)));
-        start = λ g h. d .others (Start g) (λ same. absurd (omega (arith, ltb-true g (t .table .facts) (ap (cellInside t) same ∙ inside))));
-        goal = λ g h. d .others (Goal g) (λ same. absurd (omega (arith, ltb-true g (t .table .facts) (ap (cellInside t) same ∙ inside))));
+        start = λ r g out. d .others (Start r g) (λ same. in-runs r g out (ap (cellInside t) same ∙ inside));
+        goal = λ r g out. d .others (Goal r g) (λ same. in-runs r g out (ap (cellInside t) same ∙ inside));
       })
+    where
+      in-runs : (r g : ℕ) → (g < t .table .facts → r < t .runs .many → ⊥) → (ltb r (t .runs .many) && ltb g (t .table .facts)) ≡ true → ⊥
+      in-runs r g out low =
+          let both-low = both (ltb r (t .runs .many)) (ltb g (t .table .facts)) low in
+          out (ltb-true g (t .table .facts) (both-low .1)) (ltb-true r (t .runs .many) (both-low .0))
 
   -- every other fact is as it was
   edited-elsewhere : (g : ℕ) → (g ≡ cellFact (e .cell) → ⊥) → SameFact g t u
@@ -210,8 +258,8 @@ module _ (t : Task) (e : Edit) (u : Task) (d : EditedTo t e u) where
   edited-elsewhere g other = record {
     sizes = edited-sizes;
     cell = λ k a hk. edited-cell k a g hk (λ same. other (kind-fact a g k hk ∙ ap cellFact same));
-    start = d .others (Start g) (λ same. other (ap cellFact same));
-    goal = d .others (Goal g) (λ same. other (ap cellFact same));
+    start = λ r. d .others (Start r g) (λ same. other (ap cellFact same));
+    goal = λ r. d .others (Goal r g) (λ same. other (ap cellFact same));
   }
 
   pub keeps-elsewhere : (g : ℕ) → (g ≡ cellFact (e .cell) → ⊥) → (l : List ℕ) → KeepsFor t g l → KeepsFor u g l

@@ -15,7 +15,7 @@ use Rattle.table.specs.declared.Table.{Table}
 use Rattle.table.specs.declared.Task.{Task}
 use Rattle.table.proofs.FlagLaws.{cond-by}
 use Rattle.table.proofs.RepairNumbers.{kind-cases}
-use Rattle.table.proofs.SettingLaws.{has-setFact, getD-setIn}
+use Rattle.table.proofs.SettingLaws.{has-setIn}
 use Rattle.table.specs.Setting.{setFact, setIn}
 use Rattle.change.specs.Kinds.{kindSet, numberSet, oneByOne}
 
@@ -35,11 +35,14 @@ Long t = (k : ℕ) → k < kinds → length (setsOf t k) ≡ maxActions
 pub shaped-long : (t : Task) → Shaped t → Long (t .table)
 shaped-long t s = kind-cases (λ k. length (setsOf (t .table) k) ≡ maxActions) (s .deletes) (s .adds) (s .needs)
 
-pub long-shaped : (u : Table) (t : Task) → Long u → Shaped t → Shaped (record { table = u; run = t .run })
+pub long-shaped : (u : Table) (t : Task) → Long u → Shaped t → Shaped (record { table = u; runs = t .runs })
 long-shaped u t long s = record {
   needs = long dropNeed (omega arith);
   adds = long addEffect (omega arith);
   deletes = long dropDelete (omega arith);
+  starts = s .starts;
+  goals = s .goals;
+  counts = s .counts;
   steps = s .steps;
 }
 
@@ -72,12 +75,8 @@ module _ (t : Table) (a f : ℕ) (p : Bool) where
       old : ℕ
       old = getD (setsOf t j) b 0
 
-      inner : (e : Bool) → has (cond e (setFact old f p) old) g ≡ cond (e && eqb g f) p (has old g)
-      inner true = has-setFact old f p g hf
-      inner false = refl
-
       pick : (e : Bool) → has (getD (cond e (setIn (setsOf t j) a f p) (setsOf t j)) b 0) g ≡ cond (e && eqb b a && eqb g f) p (has old g)
-      pick true = ap (λ (m : ℕ). has m g) (getD-setIn (setsOf t j) a f p b (omega (arith, long j hj))) ∙ inner (eqb b a)
+      pick true = has-setIn (setsOf t j) a f p b g (omega (arith, long j hj)) hf
       pick false = refl
 
   -- the sizes are as they were

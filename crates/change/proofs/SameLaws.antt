@@ -3,7 +3,7 @@
 use mathlib.Core.Bool.{false}
 use mathlib.Core.List.{List}
 use mathlib.Core.Path.{_≡_, refl, sym, ap, _∙_}
-use Prim.Native.Nat.{ℕ, _<_, _≤_}
+use Prim.Native.Nat.{ℕ, _+_, _*_, _<_, _≤_}
 use native.Mathlib.Omega.{arith}
 use lib.Dec.{ltb}
 use lib.ListN.{getD}
@@ -14,8 +14,8 @@ use Rattle.table.proofs.AnswerLaws.{AlikeAt, alike-sym, keeps-alike}
 use Rattle.table.proofs.Formation.{byKind-all}
 use Rattle.table.proofs.RunLaws.{SameCoursesAt, sameCourses-sym}
 use Rattle.table.specs.Repairs.{dropDelete, addEffect, dropNeed}
-use Rattle.table.specs.Sizes.{kinds}
-use Rattle.table.specs.Tasks.{cellsOf, courseOf, coursesOf, maskOf, KeepsFor, Shaped, WellFormed}
+use Rattle.table.specs.Sizes.{kinds, maxSteps}
+use Rattle.table.specs.Tasks.{cellsOf, startOf, goalOf, countOf, stepOf, courseOf, coursesOf, maskOf, KeepsFor, Shaped, WellFormed}
 use Rattle.table.specs.declared.Task.{Task}
 use Rattle.change.proofs.KindLaws.{setsOf, mask-sets, shaped-long}
 
@@ -25,24 +25,25 @@ pub record SameSizes (t u : Task) : Type 0 where
   pub facts : u .table .facts ≡ t .table .facts
   pub actions : u .table .actions ≡ t .table .actions
   pub limit : u .table .limit ≡ t .table .limit
-  pub count : u .run .count ≡ t .run .count
-  pub steps : u .run .steps ≡ t .run .steps
+  pub many : u .runs .many ≡ t .runs .many
+  pub counts : u .runs .counts ≡ t .runs .counts
+  pub steps : u .runs .steps ≡ t .runs .steps
 
--- the needs, adds and deletes of fact g, its start and its goal, and all sizes and steps
+-- the needs, adds and deletes of fact g, its start and its goal in each run, and all sizes and steps
 pub record SameFact (g : ℕ) (t u : Task) : Type 0 where
   pub sizes : SameSizes t u
   pub cell : (k a : ℕ) → k < kinds → has (maskOf (u .table) k a) g ≡ has (maskOf (t .table) k a) g
-  pub start : has (u .run .start) g ≡ has (t .run .start) g
-  pub goal : has (u .run .goal) g ≡ has (t .run .goal) g
+  pub start : (r : ℕ) → has (startOf (u .runs) r) g ≡ has (startOf (t .runs) r) g
+  pub goal : (r : ℕ) → has (goalOf (u .runs) r) g ≡ has (goalOf (t .runs) r) g
 
--- every cell whose fact or action is outside
+-- every cell whose fact, action or run is outside
 pub record SameOutside (t u : Task) : Type 0 where
   pub shaped : Shaped u
   pub sizes : SameSizes t u
   pub cell : (k a g : ℕ) → k < kinds → (g < t .table .facts → a < t .table .actions → ⊥)
       → has (maskOf (u .table) k a) g ≡ has (maskOf (t .table) k a) g
-  pub start : (g : ℕ) → t .table .facts ≤ g → has (u .run .start) g ≡ has (t .run .start) g
-  pub goal : (g : ℕ) → t .table .facts ≤ g → has (u .run .goal) g ≡ has (t .run .goal) g
+  pub start : (r g : ℕ) → (g < t .table .facts → r < t .runs .many → ⊥) → has (startOf (u .runs) r) g ≡ has (startOf (t .runs) r) g
+  pub goal : (r g : ℕ) → (g < t .table .facts → r < t .runs .many → ⊥) → has (goalOf (u .runs) r) g ≡ has (goalOf (t .runs) r) g
 
 -- ---- equal sizes and equal cells are equal tables
 
@@ -73,25 +74,38 @@ outside-well t u w o = record {
   actions-low = omega (arith, w .actions-low);
   actions-high = omega (arith, w .actions-high);
   limit-high = omega (arith, w .limit-high);
-  count-high = omega (arith, w .count-high);
+  many-low = omega (arith, w .many-low);
+  many-high = omega (arith, w .many-high);
+  count-high = λ i. omega (arith, same-count i, w .count-high i);
   inside = λ k a f h.
       byKind-all (λ (m : ℕ). has m f ≡ false) k (empty dropDelete a f (omega arith) h) (empty addEffect a f (omega arith) h)
       (empty dropNeed a f (omega arith) h);
-  start-inside = λ f h.
+  start-inside = λ r f h.
       let l : t .table .facts ≤ f = omega arith in
-      o .start f l ∙ w .start-inside f l;
-  goal-inside = λ f h.
+      o .start r f (λ m _. absurd (omega arith)) ∙ w .start-inside r f l;
+  goal-inside = λ r f h.
       let l : t .table .facts ≤ f = omega arith in
-      o .goal f l ∙ w .goal-inside f l;
-  steps-below = λ i h.
-      let e : getD (u .run .steps) i 0 ≡ getD (t .run .steps) i 0 = ap (λ (s : List ℕ). getD s i 0) (o .sizes .steps) in
-      omega (arith, w .steps-below i (omega arith));
+      o .goal r f (λ m _. absurd (omega arith)) ∙ w .goal-inside r f l;
+  steps-below = λ i j h. omega (arith, same-step i j, w .steps-below i j (omega (arith, same-count i)));
   actions-unused = λ k a h.
       byKind-all (λ (m : ℕ). m ≡ 0) k (none dropDelete a (omega arith) h) (none addEffect a (omega arith) h)
       (none dropNeed a (omega arith) h);
-  steps-unused = λ i h. ap (λ (s : List ℕ). getD s i 0) (o .sizes .steps) ∙ w .steps-unused i (omega arith);
+  start-unused = λ r h. same-sets (startOf (u .runs) r) 0 (λ f.
+      let l : t .runs .many ≤ r = omega (arith, o .sizes .many) in
+      o .start r f (λ _ m. absurd (omega arith)) ∙ ap (λ (m : ℕ). has m f) (w .start-unused r l));
+  goal-unused = λ r h. same-sets (goalOf (u .runs) r) 0 (λ f.
+      let l : t .runs .many ≤ r = omega (arith, o .sizes .many) in
+      o .goal r f (λ _ m. absurd (omega arith)) ∙ ap (λ (m : ℕ). has m f) (w .goal-unused r l));
+  count-unused = λ r h. same-count r ∙ w .count-unused r (omega (arith, o .sizes .many));
+  steps-unused = λ i j h small. same-step i j ∙ w .steps-unused i j (omega (arith, same-count i)) small;
 }
   where
+    same-count : (i : ℕ) → countOf (u .runs) i ≡ countOf (t .runs) i
+    same-count i = ap (λ (s : List ℕ). getD s i 0) (o .sizes .counts)
+
+    same-step : (i j : ℕ) → stepOf (u .runs) i j ≡ stepOf (t .runs) i j
+    same-step i j = ap (λ (s : List ℕ). getD s (maxSteps * i + j) 0) (o .sizes .steps)
+
     empty : (k a f : ℕ) → k < kinds → u .table .facts ≤ f → has (maskOf (u .table) k a) f ≡ false
     empty k a f hk h =
         let l : t .table .facts ≤ f = omega (arith, o .sizes .facts) in
@@ -120,12 +134,12 @@ module _ (g : ℕ) (t u : Task) (s : SameFact g t u) where
   pub same-courses : SameCoursesAt g (coursesOf t) (coursesOf u)
   unfolding courseOf
   same-courses = record {
-    many = refl;
+    many = sym (s .sizes .many);
     each = λ i h. record {
-      start = sym (s .start);
-      goal = sym (s .goal);
-      count = sym (s .sizes .count);
-      steps = λ i h. ap (λ (l : List ℕ). getD l i 0) (sym (s .sizes .steps));
+      start = sym (s .start i);
+      goal = sym (s .goal i);
+      count = ap (λ (l : List ℕ). getD l i 0) (sym (s .sizes .counts));
+      steps = λ j h. ap (λ (l : List ℕ). getD l (maxSteps * i + j) 0) (sym (s .sizes .steps));
     };
   }
 

@@ -2,9 +2,9 @@
 use crate::Cell;
 use crate::Edit;
 use crate::cells;
-use table::Run;
+use table::Runs;
 use table::Task;
-use table::cells::set_fact;
+use table::cells::set_in_run;
 use table::repair::Repair;
 ghost use mathlib.Core.Path.{_≡_};
 ghost use Rattle.change.specs.Editing.{edited, cellFact, cellInside};
@@ -18,24 +18,26 @@ pub fn cell_fact(e: Edit) -> usize
         Cell::Need { action, fact } => fact,
         Cell::Add { action, fact } => fact,
         Cell::Delete { action, fact } => fact,
-        Cell::Start { fact } => fact,
-        Cell::Goal { fact } => fact,
+        Cell::Start { run, fact } => fact,
+        Cell::Goal { run, fact } => fact,
     }
 }
 
-// Whether the edit names a fact, and for a need, an add or a delete an action, that is in the task (refusal 14 if not).
+// Whether the edit names a fact, and for a need, an add or a delete an action, for a start or a goal a run, that is in the task
+// (refusal 14 if not).
 pub fn is_inside(t: Task, e: Edit) -> bool
     ensures { λ r. ⌜ r ≡ cellInside t (e .cell) ⌝ }
 {
     let cell = e.cell;
     let facts = t.table.facts;
     let actions = t.table.actions;
+    let many = t.runs.many;
     match cell {
         Cell::Need { action, fact } => (action < actions) & (fact < facts),
         Cell::Add { action, fact } => (action < actions) & (fact < facts),
         Cell::Delete { action, fact } => (action < actions) & (fact < facts),
-        Cell::Start { fact } => fact < facts,
-        Cell::Goal { fact } => fact < facts,
+        Cell::Start { run, fact } => (run < many) & (fact < facts),
+        Cell::Goal { run, fact } => (run < many) & (fact < facts),
     }
 }
 
@@ -46,29 +48,37 @@ pub fn set_cell(t: Task, e: Edit) -> Task
     let cell = e.cell;
     let present = e.present;
     let before = t.table;
-    let run = t.run;
+    let runs = t.runs;
     match cell {
         Cell::Need { action, fact } => {
             let table = cells::set_of_kind(before, Repair::DROP_NEED, action, fact, present);
-            Task { table, run }
+            Task { table, runs }
         }
         Cell::Add { action, fact } => {
             let table = cells::set_of_kind(before, Repair::ADD_EFFECT, action, fact, present);
-            Task { table, run }
+            Task { table, runs }
         }
         Cell::Delete { action, fact } => {
             let table = cells::set_of_kind(before, Repair::DROP_DELETE, action, fact, present);
-            Task { table, run }
+            Task { table, runs }
         }
-        Cell::Start { fact } => {
-            let start = set_fact(run.start, fact, present);
-            let run = Run { start, ..run };
-            Task { table: before, run }
+        Cell::Start { run, fact } => {
+            let sets = runs.starts;
+            let starts = set_in_run(sets, run, fact, present);
+            let runs = Runs { starts, ..runs };
+            Task {
+                table: before,
+                runs,
+            }
         }
-        Cell::Goal { fact } => {
-            let goal = set_fact(run.goal, fact, present);
-            let run = Run { goal, ..run };
-            Task { table: before, run }
+        Cell::Goal { run, fact } => {
+            let sets = runs.goals;
+            let goals = set_in_run(sets, run, fact, present);
+            let runs = Runs { goals, ..runs };
+            Task {
+                table: before,
+                runs,
+            }
         }
     }
 }

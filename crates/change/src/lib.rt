@@ -2,13 +2,13 @@
 pub mod cells;
 pub mod editing;
 
-// Which cell an edit names: a need, an add or a delete, by action and fact; or a start or goal fact.
+// Which cell an edit names: a need, an add or a delete, by action and fact; or a start or goal fact, by its run (02, request 1).
 pub enum Cell {
     Need { action: usize, fact: usize },
     Add { action: usize, fact: usize },
     Delete { action: usize, fact: usize },
-    Start { fact: usize },
-    Goal { fact: usize },
+    Start { run: usize, fact: usize },
+    Goal { run: usize, fact: usize },
 }
 
 // An edit: the cell, and whether it is set to present or absent.

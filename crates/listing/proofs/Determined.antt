@@ -14,7 +14,7 @@ use Rattle.table.specs.declared.TaskReply.{TaskReply}
 use Rattle.taskformat.proofs.Unique.{reads-unique}
 use Rattle.text.specs.Text.{textOf, longestText}
 use Rattle.listing.specs.Listing.{answerRoom, Lists, ListsInto}
-use Rattle.listing.proofs.TellingLaws.{solved-fits}
+use Rattle.listing.proofs.TellingLaws.{solved-fits, read-formed}
 use Rattle.text.proofs.TextLength.{text-most}
 
 pub text-unique : {input text other : List ℕ} → Lists input text → Lists input other → text ≡ other
@@ -39,7 +39,8 @@ pub text-fits : {input text : List ℕ} → Lists input text → length text ≤
 text-fits a =
     let o = a .solved in
     rw (a .text-is)
-    (text-most (a .read) (checked (a .read .task)) o (omega (arith, take-most (o .reply .length) (o .room), solved-fits (a .solves))))
+    (text-most (a .read) (checked (a .read .task)) o (λ ok. read-formed (a .reads) ok .many-high)
+    (omega (arith, take-most (o .reply .length) (o .room), solved-fits (a .solves))))
 
 -- In room for the longest text the listing is never refused.
 pub always-listed : {input room : List ℕ} {o : Outcome} → longestText ≤ length room → (a : ListsInto input room o)

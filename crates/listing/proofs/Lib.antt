@@ -1,4 +1,5 @@
 -- The laws of the listing.
+pub mod CheckingLaws
 pub mod TellingLaws
 pub mod Determined
 pub mod CutLaws

@@ -1,12 +1,14 @@
--- What demand 1 needs of the calls' contracts: each bad input's refusal, that every number is one of document 01's (so that 255, the
+-- What demand 1 needs of the calls' contracts: each bad input's refusal, that every number is one of document 01's or 02's (so that 255, the
 -- boundary's own, is none), and that a refusal leaves what was lent as it was. Assumes nothing.
 use mathlib.Core.Bool.{Bool, true, false, cond, not}
 use mathlib.Core.List.{List}
+use mathlib.Core.Logic.{_⊎_, inl, inr, ⊎-elim}
 use mathlib.Core.Path.{_≡_, refl, sym, ap, subst}
 use Prim.Native.Nat.{ℕ, _+_, _<_, _≤_}
 use native.Mathlib.Omega.{arith}
-use lib.Dec.{eqb}
+use lib.Dec.{eqb, ltb}
 use lib.ListN.{length}
+use borrow.Author.Tests.{le-ltb}
 use Rattle.apply.proofs.ApplyLaws.{applies-wrong, applies-unique}
 use Rattle.apply.proofs.PermittedLaws.{firstWrong-le, permitted-list}
 use Rattle.apply.specs.Applying.{firstWrong, applyRefusal, Applies}
@@ -22,25 +24,29 @@ use Rattle.solve.specs.Solving.{told, Solves}
 use Rattle.rows.specs.Tables.{rowAt}
 use Rattle.table.proofs.FlagLaws.{by-order}
 use Rattle.table.proofs.OutcomeLaws.{given-cases}
-use Rattle.table.proofs.RefusalLaws.{Bounded, firstOf-bounded}
+use Rattle.table.proofs.RefusalLaws.{firstOf-in}
 use Rattle.table.specs.Answer.{Verdict, found, over, hopeless, Permitted}
 use Rattle.table.specs.Join.{joinVerdicts}
 use Rattle.table.specs.Outcomes.{Outcome, refusal, refused, given}
-use Rattle.table.specs.Refusals.{accepted, bytesAfterEnd, notWellFormed, notASession, listNotPermitted}
+use Rattle.table.specs.Refusals.{accepted, bytesAfterEnd, notWellFormed, notASession, notThere, listNotPermitted, tooManyRuns}
 use Rattle.table.specs.Tasks.{cellsOf, courseOf, formed, WellFormed}
 use Rattle.table.specs.declared.Reply.{Reply}
 use Rattle.table.specs.declared.Task.{Task}
 use Rattle.table.specs.declared.TaskReply.{TaskReply}
 use Rattle.taskformat.proofs.FilesAreTasks.{accepted-exactly, accepted-read}
 use Rattle.taskformat.specs.Format.{fileOf}
-use Rattle.taskformat.specs.Reading.{Seen, noTask, faultsAt, Reads, ReadsFile, faulty, good, ended, trailing}
+use Rattle.taskformat.specs.Reading.{Seen, noTask, faultsAt, faultAt, Reads, ReadsFile, faulty, good, ended, trailing}
 use Rattle.taskfile.specs.Records.{recordFault, recordAt, wholeRecord, refusedRecord}
 use Rattle.taskfile.specs.declared.record.Record.{Record}
 use Rattle.taskwriter.specs.Writing.{written}
 
--- A number of document 01's table.
+-- A number of document 01's table, or of 02's request 1.
 abbrev pub Listed : ℕ → Type 0
-Listed n = n ≤ 15
+Listed n = n ≤ 16
+
+-- One that reading gives: 1 to 8, or 16 (02, request 1); or 0.
+abbrev pub FileNumber : ℕ → Type 0
+FileNumber n = (n ≤ bytesAfterEnd) ⊎ (n ≡ tooManyRuns)
 
 -- Of two results one is given, and either is right.
 either : {A : Type 0} (Right : A → Type 0) (b : Bool) (x y : A) → Right x → Right y → Right (cond {A = A} b x y)
@@ -49,32 +55,33 @@ either Right false x y h k = k
 
 -- ---- files
 
-faults-bounded : (s : List ℕ) (at : ℕ) (seen : Seen) → Bounded bytesAfterEnd (faultsAt s at seen)
+fault-number : (s : List ℕ) (at : ℕ) (seen : Seen) → FileNumber (faultAt s at seen .number)
 unfolding faultsAt
-faults-bounded s at seen =
-    (omega arith, (omega arith, (omega arith, (omega arith, (omega arith, (omega arith, (omega arith, (omega arith, tt))))))))
+fault-number s at seen =
+    firstOf-in FileNumber (faultsAt s at seen) (inl (omega arith))
+    (inl (omega arith), (inl (omega arith), (inl (omega arith), (inl (omega arith), (inl (omega arith), (inl (omega arith), (inl (omega arith), (inr refl, (inl (omega arith), tt)))))))))
 
 -- What a refused read gives.
 pub record BadFile (r : TaskReply) : Type 0 where
-  pub numbered : (0 < r .number) × (r .number ≤ bytesAfterEnd)
+  pub numbered : (0 < r .number) × FileNumber (r .number)
   pub zeros : r .task ≡ noTask
 
 bad-from : {s : List ℕ} {r : TaskReply} {at : ℕ} {seen : Seen} → Reads s r at seen → (r .number ≡ accepted → ⊥) → BadFile r
 bad-from {s} (faulty {at} {seen} f e) nonzero = record {
   numbered = (
     omega (arith, ap (λ (q : TaskReply). q .number) e),
-    omega (arith, ap (λ (q : TaskReply). q .number) e, firstOf-bounded bytesAfterEnd (faultsAt s at seen) (faults-bounded s at seen)),
+    subst FileNumber (ap (λ (q : TaskReply). q .number) (sym e)) (fault-number s at seen),
   );
   zeros = ap (λ (q : TaskReply). q .task) e;
 }
 bad-from (good c more rest) nonzero = bad-from rest nonzero
 bad-from (ended c is last e) nonzero = absurd (nonzero (ap (λ (q : TaskReply). q .number) e))
 bad-from (trailing c is more e) nonzero = record {
-  numbered = (omega (arith, ap (λ (q : TaskReply). q .number) e), omega (arith, ap (λ (q : TaskReply). q .number) e));
+  numbered = (omega (arith, ap (λ (q : TaskReply). q .number) e), inl (omega (arith, ap (λ (q : TaskReply). q .number) e)));
   zeros = ap (λ (q : TaskReply). q .task) e;
 }
 
--- Bytes that are no well-formed task's file get a number from 1 to 8 and a task of zeros.
+-- Bytes that are no well-formed task's file get a number from 1 to 8, or 16, and a task of zeros.
 pub bad-file : (s : List ℕ) (r : TaskReply) → ReadsFile s r → ((t : Task) → WellFormed t → s ≡ fileOf t → ⊥) → BadFile r
 bad-file s r reads none =
     bad-from reads (λ ok.
@@ -82,48 +89,56 @@ bad-file s r reads none =
     none (r .task) (p .0) (p .1))
 
 pub read-number : (s : List ℕ) (r : TaskReply) → ReadsFile s r → Listed (r .number)
-read-number s r reads = by-order (r .number) 1 (λ h. omega arith) (λ h. omega (arith, bad-from reads (λ e. omega arith) .numbered))
+read-number s r reads =
+    by-order (r .number) 1 (λ h. omega arith)
+    (λ h. ⊎-elim (λ low. omega arith) (λ same. omega arith) (bad-from reads (λ e. omega arith) .numbered .1))
 
-fault-number : (s : List ℕ) (at : ℕ) → Listed (recordFault s at .number)
+record-fault : (s : List ℕ) (at : ℕ) → Listed (recordFault s at .number)
 unfolding recordFault
-fault-number s at = firstOf-bounded 15 _ (omega arith, (omega arith, (omega arith, tt)))
+record-fault s at = firstOf-in Listed _ (omega arith) (omega arith, (omega arith, (omega arith, tt)))
 
 pub record-number : (s : List ℕ) (at : ℕ) → Listed (recordAt s at .number)
 unfolding recordAt
 record-number s at =
     either (λ (r : Record). Listed (r .number)) (eqb (recordFault s at .number) accepted) (wholeRecord s at)
-    (refusedRecord (recordFault s at .number) (recordFault s at .place)) (omega arith) (fault-number s at)
+    (refusedRecord (recordFault s at .number) (recordFault s at .place)) (omega arith) (record-fault s at)
 
 -- ---- the run check
 
-pub check-malformed : (t : Task) → formed t ≡ false → checked t ≡ refusedCheck notWellFormed
+pub check-malformed : (t : Task) (run : ℕ) → formed t ≡ false → checked t run ≡ refusedCheck notWellFormed
 unfolding checked
-check-malformed t e = rw e
+check-malformed t run e = rw e
 
-pub check-number : (t : Task) → Listed (checked t .number)
+-- "14 covers a run that isn't there."
+pub check-outside : (t : Task) (run : ℕ) → formed t ≡ true → t .runs .many ≤ run → checked t run ≡ refusedCheck notThere
+unfolding checked
+check-outside t run e h = rw (e, le-ltb run (t .runs .many) h)
+
+pub check-number : (t : Task) (run : ℕ) → Listed (checked t run .number)
 unfolding checked openReport
-check-number t =
+check-number t run =
     let c = cellsOf (t .table) in
-    let r = courseOf (t .run) in
-    let s = statesOf t in
-    either (λ (k : Checked). Listed (k .number)) (formed t) (openReport c r s) (refusedCheck notWellFormed)
-    (either (λ (k : Checked). Listed (k .number)) (eqb (totalOpen c r s) 0) (openNeeds 0 0 0)
-    (openNeeds (totalOpen c r s) (firstOpen c r s + 1) (lowestOpen c r s)) (omega arith) (omega arith))
-    (omega arith)
+    let r = courseOf (t .runs) run in
+    let s = statesOf t run in
+    let listed : Checked → Type 0 = λ k. Listed (k .number) in
+    either listed (not (formed t)) (refusedCheck notWellFormed) _ (omega arith)
+    (either listed (not (ltb run (t .runs .many))) (refusedCheck notThere) (openReport c r s) (omega arith)
+    (either listed (eqb (totalOpen c r s) 0) (openNeeds 0 0 0) (openNeeds (totalOpen c r s) (firstOpen c r s + 1) (lowestOpen c r s)) (omega arith)
+    (omega arith)))
 
 -- ---- calls whose refusals are checks in order: applying a list, opening, an edit
 
 pub apply-number : (t : Task) (l : List ℕ) (r : TaskReply) → Applies t l r → Listed (r .number)
 unfolding applyRefusal
-apply-number t l r a = subst Listed (sym (a .number)) (firstOf-bounded 15 _ (omega arith, (omega arith, tt)))
+apply-number t l r a = subst Listed (sym (a .number)) (firstOf-in Listed _ (omega arith) (omega arith, (omega arith, tt)))
 
 pub open-number : (t : Task) (s : List ℕ) (r : Reply) (after : List ℕ) → Opens t s r after → Listed (r .number)
 unfolding openRefusal
-open-number t s r after a = subst Listed (sym (a .number)) (firstOf-bounded 15 _ (omega arith, (omega arith, tt)))
+open-number t s r after a = subst Listed (sym (a .number)) (firstOf-in Listed _ (omega arith) (omega arith, (omega arith, tt)))
 
 pub edit-number : (t : Task) (s : List ℕ) (e : Edit) (r : TaskReply) (after : List ℕ) → Edits t s e r after → Listed (r .number)
 unfolding editRefusal
-edit-number t s e r after a = subst Listed (sym (a .number)) (firstOf-bounded 15 _ (omega arith, (omega arith, (omega arith, tt))))
+edit-number t s e r after a = subst Listed (sym (a .number)) (firstOf-in Listed _ (omega arith) (omega arith, (omega arith, (omega arith, tt))))
 
 -- A list that is not permitted is refused at its first wrong number.
 pub bad-list : (t : Task) → WellFormed t → formed t ≡ true → (l : List ℕ) → (Permitted (cellsOf (t .table)) l → ⊥) → (r : TaskReply) → Applies t l r

@@ -3,7 +3,7 @@
 -- (.2), of zp_edit the task's words (.2) and the table (.3). Open Demands first. Assumes nothing.
 use mathlib.Core.Bool.{false}
 use mathlib.Core.List.{List, [], _∷_, _++_}
-use mathlib.Core.Path.{_≡_, sym, ap, _∙_}
+use mathlib.Core.Path.{_≡_, sym, ap, _∙_, subst}
 use Prim.Native.Nat.{ℕ, _<_, _≤_}
 use native.Mathlib.Omega.{arith}
 use lib.ListN.{length, getD, drop}
@@ -44,7 +44,7 @@ use Rattle.taskformat.specs.Format.{fileOf}
 use Rattle.taskformat.specs.Reading.{noTask}
 use Rattle.taskwriter.proofs.WritingLaws.{written-unformed}
 use Rattle.promises.proofs.Demands.{Refused}
-use Rattle.promises.proofs.BadInputLaws.{Listed, bad-file, read-number, record-number, check-malformed, check-number, apply-number, open-number, edit-number, bad-list, open-refused, edit-refused, write-fair, solve-fair, list-fair, listing-fair}
+use Rattle.promises.proofs.BadInputLaws.{Listed, FileNumber, bad-file, read-number, record-number, check-malformed, check-outside, check-number, apply-number, open-number, edit-number, bad-list, open-refused, edit-refused, write-fair, solve-fair, list-fair, listing-fair}
 
 -- ---- the words
 
@@ -88,14 +88,14 @@ pub record AllDefinedThere : Type 0 where
 -- those.
 pub record AnswerRooms : Type 0 where
   pub record-room : (file : List ℕ) (at : ℕ) (answer : List ℕ) (o : Alone) → ZpRecordGives file at answer o → AnswerRoom 6 answer (o .0) (o .1)
-  pub read-room : (file answer : List ℕ) (o : Alone) → ZpReadGives file answer o → AnswerRoom 168 answer (o .0) (o .1)
+  pub read-room : (file answer : List ℕ) (o : Alone) → ZpReadGives file answer o → AnswerRoom 638 answer (o .0) (o .1)
   pub write-room : (ws room answer : List ℕ) (o : Lending) → ZpWriteGives ws room answer o → AnswerRoom 3 answer (o .0) (o .1)
-  pub check-room : (ws answer : List ℕ) (o : Alone) → ZpCheckGives ws answer o → AnswerRoom 5 answer (o .0) (o .1)
+  pub check-room : (ws : List ℕ) (run : ℕ) (answer : List ℕ) (o : Alone) → ZpCheckGives ws run answer o → AnswerRoom 5 answer (o .0) (o .1)
   pub apply-room : (ws list answer : List ℕ) (o : Lending) → ZpApplyGives ws list answer o → AnswerRoom 2 answer (o .0) (o .1)
   pub solve-room : (ws room answer : List ℕ) (o : Lending) → ZpSolveGives ws room answer o → AnswerRoom 3 answer (o .0) (o .1)
   pub open-room : (ws table answer : List ℕ) (o : Lending) → ZpOpenGives ws table answer o → AnswerRoom 3 answer (o .0) (o .1)
-  pub edit-room : (ws : List ℕ) (kind action fact present : ℕ) (table answer : List ℕ) (o : LendingTwo)
-      → ZpEditGives ws kind action fact present table answer o → AnswerRoom 2 answer (o .0) (o .1)
+  pub edit-room : (ws : List ℕ) (kind whose fact present : ℕ) (table answer : List ℕ) (o : LendingTwo)
+      → ZpEditGives ws kind whose fact present table answer o → AnswerRoom 2 answer (o .0) (o .1)
   pub list-room : (ws table room answer : List ℕ) (o : Lending) → ZpListGives ws table room answer o → AnswerRoom 3 answer (o .0) (o .1)
   pub listing-room : (input room answer : List ℕ) (o : Lending) → ZpListingGives input room answer o → AnswerRoom 3 answer (o .0) (o .1)
 
@@ -103,7 +103,7 @@ pub record AnswerRooms : Type 0 where
 pub record BadWords (ws : List ℕ) : Type 0 where
   pub write-it : (room answer : List ℕ) → 3 ≤ length answer → (o : Lending) → ZpWriteGives ws room answer o
       → Said (12 ∷ 0 ∷ 0 ∷ []) answer (o .0) (o .1) × (o .2 ≡ room)
-  pub check-it : (answer : List ℕ) → 5 ≤ length answer → (o : Alone) → ZpCheckGives ws answer o
+  pub check-it : (run : ℕ) (answer : List ℕ) → 5 ≤ length answer → (o : Alone) → ZpCheckGives ws run answer o
       → Said (12 ∷ 0 ∷ 0 ∷ 0 ∷ 0 ∷ []) answer (o .0) (o .1)
   pub apply-it : (list answer : List ℕ) → 2 ≤ length answer → (o : Lending) → ZpApplyGives ws list answer o
       → Said (12 ∷ 0 ∷ []) answer (o .0) (o .1) × (o .2 ≡ ws)
@@ -111,8 +111,8 @@ pub record BadWords (ws : List ℕ) : Type 0 where
       → Said (12 ∷ 0 ∷ 0 ∷ []) answer (o .0) (o .1) × (o .2 ≡ room)
   pub open-it : (table answer : List ℕ) → 3 ≤ length answer → (o : Lending) → ZpOpenGives ws table answer o
       → Said (12 ∷ 0 ∷ 0 ∷ []) answer (o .0) (o .1) × (o .2 ≡ table)
-  pub edit-it : (kind action fact present : ℕ) (table answer : List ℕ) → 2 ≤ length answer → (o : LendingTwo)
-      → ZpEditGives ws kind action fact present table answer o → Said (12 ∷ 0 ∷ []) answer (o .0) (o .1) × ((o .2 ≡ ws) × (o .3 ≡ table))
+  pub edit-it : (kind whose fact present : ℕ) (table answer : List ℕ) → 2 ≤ length answer → (o : LendingTwo)
+      → ZpEditGives ws kind whose fact present table answer o → Said (12 ∷ 0 ∷ []) answer (o .0) (o .1) × ((o .2 ≡ ws) × (o .3 ≡ table))
   pub list-it : (table room answer : List ℕ) → 3 ≤ length answer → (o : Lending) → ZpListGives ws table room answer o
       → Said (12 ∷ 0 ∷ 0 ∷ []) answer (o .0) (o .1) × (o .2 ≡ room)
 
@@ -120,8 +120,8 @@ pub record BadWords (ws : List ℕ) : Type 0 where
 pub record BadTable (ws table : List ℕ) : Type 0 where
   pub open-it : (length table ≡ 448 → ⊥) → (answer : List ℕ) → 3 ≤ length answer → (o : Lending) → ZpOpenGives ws table answer o
       → Said (13 ∷ 0 ∷ 0 ∷ []) answer (o .0) (o .1) × (o .2 ≡ table)
-  pub edit-it : (length table ≡ 448 → ⊥) → (kind action fact present : ℕ) (answer : List ℕ) → 2 ≤ length answer → (o : LendingTwo)
-      → ZpEditGives ws kind action fact present table answer o → Said (13 ∷ 0 ∷ []) answer (o .0) (o .1) × ((o .2 ≡ ws) × (o .3 ≡ table))
+  pub edit-it : (length table ≡ 448 → ⊥) → (kind whose fact present : ℕ) (answer : List ℕ) → 2 ≤ length answer → (o : LendingTwo)
+      → ZpEditGives ws kind whose fact present table answer o → Said (13 ∷ 0 ∷ []) answer (o .0) (o .1) × ((o .2 ≡ ws) × (o .3 ≡ table))
   pub list-it : inForm (taskIn ws) table ≡ false → (room answer : List ℕ) → 3 ≤ length answer → (o : Lending) → ZpListGives ws table room answer o
       → Said (13 ∷ 0 ∷ 0 ∷ []) answer (o .0) (o .1) × (o .2 ≡ room)
 
@@ -130,34 +130,37 @@ pub record BadTable (ws table : List ℕ) : Type 0 where
 pub record BoundaryDemand : Type 0 where
   pub defined : AllDefinedThere
   pub answer-rooms : AnswerRooms
-  -- "Bad files": 1 to 8, and a task of zeros
-  pub bad-files : (file : List ℕ) → ((t : Task) → WellFormed t → file ≡ fileOf t → ⊥) → (answer : List ℕ) → 168 ≤ length answer → (o : Alone)
-      → ZpReadGives file answer o → (0 < o .0) × (o .0 ≤ 8) × ((place : ℕ) × (o .1 ≡ taskAnswer (o .0) place noTask ++ drop 168 answer))
-  -- "tables": of actions (12; another number of words than 166 is none), and of a session (13)
+  -- "Bad files": 1 to 8, or 02's 16, and a task of zeros
+  pub bad-files : (file : List ℕ) → ((t : Task) → WellFormed t → file ≡ fileOf t → ⊥) → (answer : List ℕ) → 638 ≤ length answer → (o : Alone)
+      → ZpReadGives file answer o → (0 < o .0) × FileNumber (o .0) × ((place : ℕ) × (o .1 ≡ taskAnswer (o .0) place noTask ++ drop 638 answer))
+  -- "tables": of actions (12; another number of words than 636 is none), and of a session (13)
   pub bad-words : (ws : List ℕ) → formed (taskIn ws) ≡ false → BadWords ws
-  pub other-words : (ws : List ℕ) → (length ws ≡ 166 → ⊥) → BadWords ws
+  pub other-words : (ws : List ℕ) → (length ws ≡ 636 → ⊥) → BadWords ws
   pub bad-tables : (ws table : List ℕ) → WellFormed (taskIn ws) → BadTable ws table
   -- "lists": 15 at the index of the first number that does not ascend or is not permitted
   pub bad-lists : (ws list : List ℕ) → WellFormed (taskIn ws) → (Permitted (cellsOf (taskIn ws .table)) list → ⊥) → (answer : List ℕ)
       → 2 ≤ length answer → (o : Lending) → ZpApplyGives ws list answer o
       → Said (15 ∷ firstWrong (cellsOf (taskIn ws .table)) list ∷ []) answer (o .0) (o .1) × (o .2 ≡ ws)
   -- "and edits": 14
-  pub bad-edits : (ws : List ℕ) (kind action fact present : ℕ) (table : List ℕ) → WellFormed (taskIn ws) → length table ≡ 448
-      → cellInside (taskIn ws) (editOf kind action fact present .cell) ≡ false → (answer : List ℕ) → 2 ≤ length answer → (o : LendingTwo)
-      → ZpEditGives ws kind action fact present table answer o → Said (14 ∷ 0 ∷ []) answer (o .0) (o .1) × ((o .2 ≡ ws) × (o .3 ≡ table))
+  pub bad-edits : (ws : List ℕ) (kind whose fact present : ℕ) (table : List ℕ) → WellFormed (taskIn ws) → length table ≡ 448
+      → cellInside (taskIn ws) (editOf kind whose fact present .cell) ≡ false → (answer : List ℕ) → 2 ≤ length answer → (o : LendingTwo)
+      → ZpEditGives ws kind whose fact present table answer o → Said (14 ∷ 0 ∷ []) answer (o .0) (o .1) × ((o .2 ≡ ws) × (o .3 ≡ table))
+  -- 02, request 1: "14 covers a run that isn't there"
+  pub no-such-run : (ws : List ℕ) (run : ℕ) → WellFormed (taskIn ws) → taskIn ws .runs .many ≤ run → (answer : List ℕ) → 5 ≤ length answer
+      → (o : Alone) → ZpCheckGives ws run answer o → Said (14 ∷ 0 ∷ 0 ∷ 0 ∷ 0 ∷ []) answer (o .0) (o .1)
   -- "a refused call changes no byte or number lent to it", and no word but the answer's; one that was not made (255) counts as refused
   pub write-changes-nothing : (ws room answer : List ℕ) (o : Lending) → ZpWriteGives ws room answer o → Refused (o .0) → o .2 ≡ room
   pub apply-changes-nothing : (ws list answer : List ℕ) (o : Lending) → ZpApplyGives ws list answer o → Refused (o .0) → o .2 ≡ ws
   pub solve-changes-nothing : (ws room answer : List ℕ) (o : Lending) → ZpSolveGives ws room answer o → Refused (o .0) → o .2 ≡ room
   pub open-changes-nothing : (ws table answer : List ℕ) (o : Lending) → ZpOpenGives ws table answer o → Refused (o .0) → o .2 ≡ table
-  pub edit-changes-nothing : (ws : List ℕ) (kind action fact present : ℕ) (table answer : List ℕ) (o : LendingTwo)
-      → ZpEditGives ws kind action fact present table answer o → Refused (o .0) → (o .2 ≡ ws) × (o .3 ≡ table)
+  pub edit-changes-nothing : (ws : List ℕ) (kind whose fact present : ℕ) (table answer : List ℕ) (o : LendingTwo)
+      → ZpEditGives ws kind whose fact present table answer o → Refused (o .0) → (o .2 ≡ ws) × (o .3 ≡ table)
   pub list-changes-nothing : (ws table room answer : List ℕ) (o : Lending) → ZpListGives ws table room answer o → Refused (o .0) → o .2 ≡ room
   pub listing-changes-nothing : (input room answer : List ℕ) (o : Lending) → ZpListingGives input room answer o → Refused (o .0) → o .2 ≡ room
 
 -- ---- a call of the boundary
 
--- The call was made with a number of 01's, and so not with 255.
+-- The call was made with a number of 01's or 02's, and so not with 255.
 room-of : {n : ℕ} {Untouched : Type 0} {Due : List ℕ → Type 0} {answer after : List ℕ} {r : ℕ} → Answers n Untouched Due answer after r
     → ((words : List ℕ) → Due words → Listed (getD words 0 0)) → AnswerRoom n answer r after
 room-of {n} {answer = answer} a number = record {
@@ -221,27 +224,27 @@ rooms = record {
       room-of (zp-record-gives file at answer o g) (λ words e. omega (arith, ap (λ w. getD w 0 0) e, record-number file at));
   read-room = λ file answer o g. told-room (zp-read-gives file answer o g) (read-number file);
   write-room = λ ws room answer o g. told-room (zp-write-gives ws room answer o g) (λ y i. write-fair (taskIn ws) room _ i .listed);
-  check-room = λ ws answer o g.
-      room-of (zp-check-gives ws answer o g) (λ words e. omega (arith, ap (λ w. getD w 0 0) e, check-number (taskIn ws)));
+  check-room = λ ws run answer o g.
+      room-of (zp-check-gives ws run answer o g) (λ words e. omega (arith, ap (λ w. getD w 0 0) e, check-number (taskIn ws) run));
   apply-room = λ ws list answer o g. told-room (zp-apply-gives ws list answer o g) (λ y i. apply-number (taskIn ws) list y (i .0));
   solve-room = λ ws room answer o g. told-room (zp-solve-gives ws room answer o g) (λ y i. solve-fair (taskIn ws) room _ i .listed);
   open-room = λ ws table answer o g. told-room (zp-open-gives ws table answer o g) (λ y. open-number (taskIn ws) table y (o .2));
-  edit-room = λ ws kind action fact present table answer o g.
-      told-room (zp-edit-gives ws kind action fact present table answer o g)
-      (λ y i. edit-number (taskIn ws) table (editOf kind action fact present) y (o .3) (i .0));
+  edit-room = λ ws kind whose fact present table answer o g.
+      told-room (zp-edit-gives ws kind whose fact present table answer o g)
+      (λ y i. edit-number (taskIn ws) table (editOf kind whose fact present) y (o .3) (i .0));
   list-room = λ ws table room answer o g. told-room (zp-list-gives ws table room answer o g) (λ y i. list-fair (taskIn ws) table room _ i .listed);
   listing-room = λ input room answer o g. told-room (zp-listing-gives input room answer o g) (λ y i. listing-fair input room _ i .listed);
 }
 
 -- An edit, where the refusal is n at place 0.
-edited-said : (ws : List ℕ) (kind action fact present : ℕ) (table answer : List ℕ) → 2 ≤ length answer → (o : LendingTwo)
-    → ZpEditGives ws kind action fact present table answer o → (n : ℕ) → 0 < n
-    → editRefusal (taskIn ws) table (editOf kind action fact present) ≡ record { number = n; place = 0 }
+edited-said : (ws : List ℕ) (kind whose fact present : ℕ) (table answer : List ℕ) → 2 ≤ length answer → (o : LendingTwo)
+    → ZpEditGives ws kind whose fact present table answer o → (n : ℕ) → 0 < n
+    → editRefusal (taskIn ws) table (editOf kind whose fact present) ≡ record { number = n; place = 0 }
     → Said (n ∷ 0 ∷ []) answer (o .0) (o .1) × ((o .2 ≡ ws) × (o .3 ≡ table))
 unfolding EditsSession
-edited-said ws kind action fact present table answer enough o g n h is =
-    changed-said ws (zp-edit-gives ws kind action fact present table answer o g) n 0 h
-    (λ y i. let same = edit-refused (taskIn ws) table (editOf kind action fact present) n h is y i in (same .0, λ e. (e, same .1))) enough
+edited-said ws kind whose fact present table answer enough o g n h is =
+    changed-said ws (zp-edit-gives ws kind whose fact present table answer o g) n 0 h
+    (λ y i. let same = edit-refused (taskIn ws) table (editOf kind whose fact present) n h is y i in (same .0, λ e. (e, same .1))) enough
 
 words-bad : (ws : List ℕ) → formed (taskIn ws) ≡ false → BadWords ws
 unfolding WritesTask ChecksRun AppliesList SolvesTask OpensSession ListsSession
@@ -249,16 +252,16 @@ words-bad ws h =
     let t = taskIn ws in
     record {
       write-it = λ room answer n o g. outcome-said (zp-write-gives ws room answer o g) 12 (λ y e. e ∙ written-unformed t room h) n;
-      check-it = λ answer n o g.
-          answers-said (zp-check-gives ws answer o g) n (12 ∷ 0 ∷ 0 ∷ 0 ∷ 0 ∷ []) (λ words e. e ∙ ap checkedWords (check-malformed t h));
+      check-it = λ run answer n o g.
+          answers-said (zp-check-gives ws run answer o g) n (12 ∷ 0 ∷ 0 ∷ 0 ∷ 0 ∷ []) (λ words e. e ∙ ap checkedWords (check-malformed t run h));
       apply-it = λ list answer n o g.
           changed-said ws (zp-apply-gives ws list answer o g) 12 0 (omega arith)
           (λ y i. (applies-unique t list y _ i (applies-unformed t list h), λ e. e)) n;
       solve-it = λ room answer n o g. outcome-said (zp-solve-gives ws room answer o g) 12 (λ y s. s .malformed h) n;
       open-it = λ table answer n o g.
           said-of (zp-open-gives ws table answer o g) (refusal 12) (open-refused t table 12 (omega arith) (open-malformed t table h)) n;
-      edit-it = λ kind action fact present table answer n o g.
-          edited-said ws kind action fact present table answer n o g 12 (omega arith) (edit-malformed t table (editOf kind action fact present) h);
+      edit-it = λ kind whose fact present table answer n o g.
+          edited-said ws kind whose fact present table answer n o g 12 (omega arith) (edit-malformed t table (editOf kind whose fact present) h);
       list-it = λ table room answer n o g. outcome-said (zp-list-gives ws table room answer o g) 12 (λ y e. e ∙ listed-malformed t table room h) n;
     }
 
@@ -270,31 +273,31 @@ table-bad ws table w =
     record {
       open-it = λ other answer n o g.
           said-of (zp-open-gives ws table answer o g) (refusal 13) (open-refused t table 13 (omega arith) (open-not-a-session t table f other)) n;
-      edit-it = λ other kind action fact present answer n o g.
-          edited-said ws kind action fact present table answer n o g 13 (omega arith)
-          (edit-not-a-session t table (editOf kind action fact present) f other);
+      edit-it = λ other kind whose fact present answer n o g.
+          edited-said ws kind whose fact present table answer n o g 13 (omega arith)
+          (edit-not-a-session t table (editOf kind whose fact present) f other);
       list-it = λ h room answer n o g. outcome-said (zp-list-gives ws table room answer o g) 13 (λ y e. e ∙ listed-not-a-session t table room w h) n;
     }
 
-file-bad : (file : List ℕ) → ((t : Task) → WellFormed t → file ≡ fileOf t → ⊥) → (answer : List ℕ) → 168 ≤ length answer → (o : Alone)
-    → ZpReadGives file answer o → (0 < o .0) × (o .0 ≤ 8) × ((place : ℕ) × (o .1 ≡ taskAnswer (o .0) place noTask ++ drop 168 answer))
+file-bad : (file : List ℕ) → ((t : Task) → WellFormed t → file ≡ fileOf t → ⊥) → (answer : List ℕ) → 638 ≤ length answer → (o : Alone)
+    → ZpReadGives file answer o → (0 < o .0) × FileNumber (o .0) × ((place : ℕ) × (o .1 ≡ taskAnswer (o .0) place noTask ++ drop 638 answer))
 unfolding ReadsTask
 file-bad file none answer n o g =
     let x = zp-read-gives file answer o g .given n in
     let y = x .2 .0 in
     let bad = bad-file file y (x .2 .1) none in
     let number : o .0 ≡ y .number = x .3 ∙ ap (λ w. getD w 0 0) (x .2 .2) in (
-      omega (arith, bad .numbered),
-      omega (arith, bad .numbered),
+      omega (arith, bad .numbered .0),
+      subst FileNumber (sym number) (bad .numbered .1),
       (
         y .place,
-        x .4 ∙ ap (λ w. w ++ drop 168 answer) (x .2 .2) ∙
-            (λ i. taskAnswer (sym number i) (y .place) (bad .zeros i) ++ drop 168 answer),
+        x .4 ∙ ap (λ w. w ++ drop 638 answer) (x .2 .2) ∙
+            (λ i. taskAnswer (sym number i) (y .place) (bad .zeros i) ++ drop 638 answer),
       ),
     )
 
 pub boundary-demand : BoundaryDemand
-unfolding WritesTask AppliesList SolvesTask OpensSession EditsSession ListsSession ListsInput
+unfolding WritesTask ChecksRun AppliesList SolvesTask OpensSession EditsSession ListsSession ListsInput
 boundary-demand = record {
   defined = record {
     record-asks = zp-record-asks-nothing;
@@ -316,16 +319,19 @@ boundary-demand = record {
   bad-lists = λ ws list w bad answer n o g.
       changed-said ws (zp-apply-gives ws list answer o g) 15 (firstWrong (cellsOf (taskIn ws .table)) list) (omega arith)
       (λ y i. (bad-list (taskIn ws) w (well-formed (taskIn ws) w) list bad y i, λ e. e)) n;
-  bad-edits = λ ws kind action fact present table w h outside answer n o g.
-      edited-said ws kind action fact present table answer n o g 14 (omega arith)
-      (edit-outside (taskIn ws) table (editOf kind action fact present) (well-formed (taskIn ws) w) h outside);
+  bad-edits = λ ws kind whose fact present table w h outside answer n o g.
+      edited-said ws kind whose fact present table answer n o g 14 (omega arith)
+      (edit-outside (taskIn ws) table (editOf kind whose fact present) (well-formed (taskIn ws) w) h outside);
+  no-such-run = λ ws run w past answer n o g.
+      answers-said (zp-check-gives ws run answer o g) n (14 ∷ 0 ∷ 0 ∷ 0 ∷ 0 ∷ [])
+      (λ words e. e ∙ ap checkedWords (check-outside (taskIn ws) run (well-formed (taskIn ws) w) past));
   write-changes-nothing = λ ws room answer o g. kept-of (zp-write-gives ws room answer o g) (λ y i. write-fair (taskIn ws) room _ i .keeps);
   apply-changes-nothing = λ ws list answer o g.
       kept-of (zp-apply-gives ws list answer o g) (λ y i first. i .1 ∙ lent-back-kept ws (y .number) (y .task) first);
   solve-changes-nothing = λ ws room answer o g. kept-of (zp-solve-gives ws room answer o g) (λ y i. solve-fair (taskIn ws) room _ i .keeps);
   open-changes-nothing = λ ws table answer o g. kept-of (zp-open-gives ws table answer o g) (λ y i first. i .refused first .1);
-  edit-changes-nothing = λ ws kind action fact present table answer o g.
-      kept-of (zp-edit-gives ws kind action fact present table answer o g)
+  edit-changes-nothing = λ ws kind whose fact present table answer o g.
+      kept-of (zp-edit-gives ws kind whose fact present table answer o g)
       (λ y i first. (i .1 ∙ lent-back-kept ws (y .number) (y .task) first, i .0 .refused first .1));
   list-changes-nothing = λ ws table room answer o g.
       kept-of (zp-list-gives ws table room answer o g) (λ y i. list-fair (taskIn ws) table room _ i .keeps);

@@ -9,7 +9,7 @@ use borrow.Author.Tests.{eqb-true, not-true}
 use Rattle.solve.specs.Solving.{told, Solves}
 use Rattle.solve.proofs.SolveLaws.{solve-unique}
 use Rattle.table.specs.Counting.{everyBelow}
-use Rattle.table.proofs.DecidingLaws.{is-all-right, all-right-is, is-shaped}
+use Rattle.table.proofs.DecidingLaws.{is-all-right, all-right-is, is-formed}
 use Rattle.table.proofs.FlagLaws.{both, and-both}
 use Rattle.table.proofs.CountingLaws.{everyBelow-all, some-passes}
 use Rattle.table.proofs.Formation.{formed-well}
@@ -118,8 +118,8 @@ module _ (t : Task) (v : ℕ → Verdict) (h : certified t v ≡ true) where
   unfolding certified
   certified-parts =
       let p = both _ _ h in
-      let q = both _ _ (p .0) in
-      (is-shaped t (q .0), q .1, everyBelow-all _ _ (p .1))
+      let q = is-formed t (p .0) in
+      (q .0, q .1, everyBelow-all _ _ (p .1))
 
   pub certified-well : WellFormed t
   certified-well = let p = certified-parts in formed-well t (p .0) (p .1)

@@ -1,6 +1,6 @@
 -- The user's three demands as three theorems. Open this file first: each demand is a record whose fields are the parts of the user's
 -- sentence, said of the calls themselves. `SolveGives t room o` says that a call of `solve` with the task t and this room gave o, and that the
--- contract above the function allows it; nothing else is known of it. So for every call (each crate's proofs/Called); the numbers are 01's.
+-- contract above the function allows it; nothing else is known of it. So for every call (each crate's proofs/Called); the numbers are 01's and 02's.
 -- Assumes nothing.
 --
 -- What is not here, because the check of each crate proves it of each function: the function ends, is safe, and gives a result that its
@@ -54,7 +54,7 @@ use Rattle.table.specs.Outcomes.{Outcome, refused, answered}
 use Rattle.table.specs.Published.{WorksPublished}
 use Rattle.table.specs.Repairs.{repaired}
 use Rattle.table.specs.Sizes.{maxFacts}
-use Rattle.table.specs.Strips.{Valid}
+use Rattle.table.specs.Strips.{Valid, AllValid}
 use Rattle.table.specs.Tasks.{cellsOf, courseOf, coursesOf, WorksFor, formed, WellFormed, withLimit}
 use Rattle.table.specs.declared.Reply.{Reply}
 use Rattle.table.specs.declared.Task.{Task}
@@ -70,7 +70,7 @@ use Rattle.taskwriter.proofs.Called.{WriteGives, write-gives, write-asks-nothin
 use Rattle.taskwriter.proofs.WritingLaws.{written-unformed, written-file}
 use Rattle.taskwriter.proofs.write.Reads as write
 use Rattle.promises.proofs.FileLaws.{read-is-exact, reads-back, writes-back}
-use Rattle.promises.proofs.BadInputLaws.{BadFile, bad-file, check-malformed, bad-list, open-refused, edit-refused, write-fair, solve-fair, list-fair, listing-fair}
+use Rattle.promises.proofs.BadInputLaws.{BadFile, bad-file, check-malformed, check-outside, bad-list, open-refused, edit-refused, write-fair, solve-fair, list-fair, listing-fair}
 use Rattle.promises.proofs.SolvedLaws.{least-length, least-first, accepted-answer, over-exactly, hopeless-exactly, short-exactly, works-cures}
 
 -- A call is refused: its number is not 0.
@@ -98,7 +98,7 @@ pub record AllDefined : Type 0 where
 pub record BadTask (t : Task) : Type 0 where
   pub formed-it : (b : Bool) → FormedGives t b → b ≡ false
   pub write-it : (room : List ℕ) (o : Outcome) → WriteGives t room o → o ≡ refused 12 room
-  pub check-it : (r : Checked) → CheckGives t r → r ≡ refusedCheck 12
+  pub check-it : (run : ℕ) (r : Checked) → CheckGives t run r → r ≡ refusedCheck 12
   pub apply-it : (l : List ℕ) (r : TaskReply) → ApplyGives t l r → r ≡ record { number = 12; place = 0; task = t }
   pub solve-it : (room : List ℕ) (o : Outcome) → SolveGives t room o → o ≡ refused 12 room
   pub open-it : (s after : List ℕ) (r : Reply) → OpenGives t s r after → (r ≡ record { number = 12; place = 0; length = 0 }) × (after ≡ s)
@@ -117,7 +117,7 @@ pub record BadSession (t : Task) (s : List ℕ) : Type 0 where
 -- call changes no byte or number lent to it."
 pub record Demand1 : Type 0 where
   pub defined : AllDefined
-  -- "Bad files .. get document 01's numbered refusal": 1 to 8, and a task of zeros. Which, and where: `refusal-files` (BenchSheet).
+  -- "Bad files .. get document 01's numbered refusal": 1 to 8, or 02's 16, and a task of zeros. Which, and where: `refusal-files` (BenchSheet).
   pub bad-files : (s : List ℕ) (r : TaskReply) → ReadGives s r → ((t : Task) → WellFormed t → s ≡ fileOf t → ⊥) → BadFile r
   -- "tables": of actions (12), and of a session (13)
   pub bad-tasks : (t : Task) → formed t ≡ false → BadTask t
@@ -128,6 +128,8 @@ pub record Demand1 : Type 0 where
   -- "and edits": 14
   pub bad-edits : (t : Task) → WellFormed t → (s : List ℕ) → length s ≡ 448 → (e : Edit) → cellInside t (e .cell) ≡ false
       → (after : List ℕ) (r : TaskReply) → EditGives t s e r after → (r ≡ record { number = 14; place = 0; task = t }) × (after ≡ s)
+  -- 02, request 1: "14 covers a run that isn't there", in a run check too
+  pub no-such-run : (t : Task) → WellFormed t → (run : ℕ) → t .runs .many ≤ run → (r : Checked) → CheckGives t run r → r ≡ refusedCheck 14
   -- "a refused call changes no byte or number lent to it"; a refused applying or edit gives the task back
   pub write-changes-nothing : (t : Task) (room : List ℕ) (o : Outcome) → WriteGives t room o → Refused (o .reply .number) → o .room ≡ room
   pub solve-changes-nothing : (t : Task) (room : List ℕ) (o : Outcome) → SolveGives t room o → Refused (o .reply .number) → o .room ≡ room
@@ -147,15 +149,17 @@ pub record Solved (t : Task) (room : List ℕ) (o : Outcome) : Type 0 where
   pub shown : o ≡ answered list room
   pub within : length list ≤ t .table .limit
   pub permitted : Permitted (cellsOf (t .table)) list
-  -- "makes the run executable and reach its goals": 001, Definition 1, in the table of Definition 2 (table/specs/Strips, Repairs)
-  pub valid : Valid (repaired (cellsOf (t .table)) (isIn list)) (courseOf (t .run))
+  -- "makes the run executable and reach its goals", every run (02, request 1): 001, Definition 1, in the table of Definition 2
+  -- (table/specs/Strips, Repairs)
+  pub valid : (run : ℕ) → run < t .runs .many → Valid (repaired (cellsOf (t .table)) (isIn list)) (courseOf (t .runs) run)
   -- "no shorter permitted list does"
   pub shortest : (m : List ℕ) → WorksFor t m → length list ≤ length m
   -- "and among equals it is the first in the stated order"
   pub first : (m : List ℕ) → WorksFor t m → length m ≡ length list → NotAfter list m
-  -- so that applying it is accepted, and the run check then finds nothing open
+  -- so that applying it is accepted, every run is valid, and the run check finds nothing open in any
   pub cures : (r : TaskReply) → ApplyGives t list r
-      → (r .number ≡ 0) × Valid (cellsOf (r .task .table)) (courseOf (r .task .run)) × ((c : Checked) → CheckGives (r .task) c → c .total ≡ 0)
+      → (r .number ≡ 0) × AllValid (cellsOf (r .task .table)) (coursesOf (r .task)) ×
+      ((run : ℕ) → run < r .task .runs .many → (c : Checked) → CheckGives (r .task) run c → c .total ≡ 0)
 
 -- "Files and tables match exactly, read and written. Repairs have the published STRIPS meaning: the list given makes the run executable
 -- and reach its goals, no shorter permitted list does, and among equals it is the first in the stated order. On a well-formed table,
@@ -174,9 +178,9 @@ pub record Demand2 : Type 0 where
       → (r : TaskReply) → ReadGives (take (o .reply .length) (o .room)) r → r ≡ acceptedRead t
   pub write-back : (s : List ℕ) (r : TaskReply) → ReadGives s r → r .number ≡ 0
       → (room : List ℕ) → length s ≤ length room → (o : Outcome) → WriteGives (r .task) room o → o ≡ answered s room
-  -- 01: "at most 20,000 bytes; later bytes can't alter its answer", neither what is read nor what is listed
-  pub later-bytes : (s : List ℕ) (r q : TaskReply) → ReadGives (take 20000 s) r → ReadGives s q → r ≡ q
-  pub later-bytes-listed : (s room : List ℕ) (o p : Outcome) → ListingGives (take 20000 s) room o → ListingGives s room p → o ≡ p
+  -- 01: "later bytes can't alter its answer", neither what is read nor what is listed; 02, request 1: 24,000 bytes
+  pub later-bytes : (s : List ℕ) (r q : TaskReply) → ReadGives (take 24000 s) r → ReadGives s q → r ≡ q
+  pub later-bytes-listed : (s room : List ℕ) (o p : Outcome) → ListingGives (take 24000 s) room o → ListingGives s room p → o ≡ p
   -- "the list given makes .., no shorter .., and among equals .."
   pub given : (t : Task) → WellFormed t → (room : List ℕ) (o : Outcome) → SolveGives t room o → o .reply .number ≡ 0 → Solved t room o
   -- "refused as over the limit exactly when some permitted list works but none within the limit", in whatever room
@@ -188,10 +192,11 @@ pub record Demand2 : Type 0 where
   -- "before the lent room is looked at": 11 exactly when there is an answer within the limit and the room is shorter
   pub room-too-short : (t : Task) → WellFormed t → (room : List ℕ) (o : Outcome) → SolveGives t room o
       → (o .reply .number ≡ 11) ↔ ((l : List ℕ) × First (WorksFor t) l × (length l ≤ t .table .limit) × (length room < length l))
-  -- 01: "Refusal 9 occurs here only with no steps and a goal absent at the start", and then it does
+  -- 02, request 1: "A solve gives 9 exactly when a run without steps lacks a goal at its start"
   pub nine-exactly : (t : Task) → WellFormed t → (room : List ℕ) (o : Outcome) → SolveGives t room o → (o .reply .number ≡ 9) ↔ Stuck t
-  -- the run check counts nothing exactly if the run is valid
-  pub nothing-open : (t : Task) → WellFormed t → (r : Checked) → CheckGives t r → (r .total ≡ 0) ↔ Valid (cellsOf (t .table)) (courseOf (t .run))
+  -- the check of a run counts nothing exactly if the run is valid
+  pub nothing-open : (t : Task) → WellFormed t → (run : ℕ) → run < t .runs .many → (r : Checked) → CheckGives t run r
+      → (r .total ≡ 0) ↔ Valid (cellsOf (t .table)) (courseOf (t .runs) run)
   -- 01: "001 permits kind 1 for every fact. Ours leaves out only repairs that do nothing, so least lists are the same", and so is what is
   -- over the limit or hopeless
   pub published-answer : (t : Task) (l : List ℕ) → First (WorksFor t) l ↔ First (WorksPublished (cellsOf (t .table)) (coursesOf t)) l
@@ -235,7 +240,7 @@ bad-task : (t : Task) → formed t ≡ false → BadTask t
 bad-task t h = record {
   formed-it = λ b g. formed-gives t b g ∙ h;
   write-it = λ room o g. write-gives t room o g ∙ written-unformed t room h;
-  check-it = λ r g. check-gives t r g ∙ check-malformed t h;
+  check-it = λ run r g. check-gives t run r g ∙ check-malformed t run h;
   apply-it = λ l r g. applies-unique t l r _ (apply-gives t l r g) (applies-unformed t l h);
   solve-it = λ room o g. solve-gives t room o g .malformed h;
   open-it = λ s after r g. open-refused t s 12 (omega arith) (open-malformed t s h) r (open-gives t s r after g);
@@ -271,6 +276,7 @@ demand-one = record {
   bad-sessions = bad-session;
   bad-lists = λ t w l bad r g. bad-list t w (well-formed t w) l bad r (apply-gives t l r g);
   bad-edits = λ t w s n e h after r g. edit-refused t s e 14 (omega arith) (edit-outside t s e (well-formed t w) n h) r (edit-gives t s e r after g);
+  no-such-run = λ t w run past r g. check-gives t run r g ∙ check-outside t run (well-formed t w) past;
   write-changes-nothing = λ t room o g. write-fair t room o (write-gives t room o g) .keeps;
   solve-changes-nothing = λ t room o g. solve-fair t room o (solve-gives t room o g) .keeps;
   open-changes-nothing = λ t s after r g h. open-gives t s r after g .refused h .1;
@@ -288,12 +294,12 @@ given-list t w room o g h =
       shown = x .3;
       within = x .2;
       permitted = x .1 .member .permitted;
-      valid = x .1 .member .valid 0 (omega arith);
+      valid = x .1 .member .valid;
       shortest = least-length (x .1);
       first = least-first (x .1);
       cures = λ r a.
           let done = works-cures t w (x .0) (x .1 .member) r (apply-gives t (x .0) r a) in
-          (done .0, done .1, λ c k. ap (λ (q : Checked). q .total) (check-gives (r .task) c k) ∙ done .2);
+          (done .0, done .1, λ run there c k. ap (λ (q : Checked). q .total) (check-gives (r .task) run c k) ∙ done .2 run there);
     }
 
 pub demand-two : Demand2
@@ -304,9 +310,9 @@ demand-two = record {
   written-exactly = λ t w room n o g. write-gives t room o g ∙ written-file t room (well-formed t w) n;
   read-back = reads-back;
   write-back = writes-back;
-  later-bytes = λ s r q a b. reads-unique (cut-decides s r .0 (read-gives (take 20000 s) r a)) (read-gives s q b);
+  later-bytes = λ s r q a b. reads-unique (cut-decides s r .0 (read-gives (take 24000 s) r a)) (read-gives s q b);
   later-bytes-listed = λ s room o p a b.
-      listing-unique (listing-cut s room o .0 (listing-gives (take 20000 s) room o a)) (listing-gives s room p b);
+      listing-unique (listing-cut s room o .0 (listing-gives (take 24000 s) room o a)) (listing-gives s room p b);
   given = given-list;
   over-the-limit = λ t w room o g. over-exactly t w room o (solve-gives t room o g);
   none-works = λ t w room o g. hopeless-exactly t w room o (solve-gives t room o g);
@@ -314,9 +320,9 @@ demand-two = record {
   nine-exactly = λ t w room o g.
       let s = solve-gives t room o g in
       (nine-stuck t w room o s, λ h. ap (λ (x : Outcome). x .reply .number) (stuck-nine t w room o s h));
-  nothing-open = λ t w r g.
-      let e = ap (λ (x : Checked). x .total) (check-gives t r g) in
-      (λ h. checked-zero-valid t w (sym e ∙ h), λ v. e ∙ valid-checked-zero t w v);
+  nothing-open = λ t w run there r g.
+      let e = ap (λ (x : Checked). x .total) (check-gives t run r g) in
+      (λ h. checked-zero-valid t run w there (sym e ∙ h), λ v. e ∙ valid-checked-zero t run w there v);
   published-answer = λ t. published-first (cellsOf (t .table)) (coursesOf t);
   published-verdict = λ t. published-within (cellsOf (t .table)) (coursesOf t);
 }

@@ -21,8 +21,8 @@ use Rattle.table.proofs.OrderLaws.{≼-length}
 use Rattle.table.specs.Answer.{First, Verdict, found, over, hopeless, Within}
 use Rattle.table.specs.Order.{NotAfter, _≼_}
 use Rattle.table.specs.Refusals.{accepted, noListWorks, overTheLimit, roomTooShort}
-use Rattle.table.specs.Strips.{Valid}
-use Rattle.table.specs.Tasks.{cellsOf, courseOf, WorksFor, WellFormed}
+use Rattle.table.specs.Strips.{AllValid}
+use Rattle.table.specs.Tasks.{cellsOf, coursesOf, WorksFor, WellFormed}
 use Rattle.table.specs.declared.Task.{Task}
 
 -- ---- which verdict a number tells
@@ -114,13 +114,15 @@ module _ (t : Task) (w : WellFormed t) (room : List ℕ) (o : Outcome) (s : Solv
 
 -- ---- the list applied
 
--- A list that works is accepted by applying it, the run is then valid, and the run check finds nothing open.
+-- A list that works is accepted by applying it, every run is then valid, and the run check finds nothing open in any.
 pub works-cures : (t : Task) → WellFormed t → (l : List ℕ) → WorksFor t l → (r : TaskReply) → Applies t l r
-    → (r .number ≡ accepted) × Valid (cellsOf (r .task .table)) (courseOf (r .task .run)) × (checked (r .task) .total ≡ 0)
+    → (r .number ≡ accepted) × AllValid (cellsOf (r .task .table)) (coursesOf (r .task)) ×
+    ((run : ℕ) → run < r .task .runs .many → checked (r .task) run .total ≡ 0)
 works-cures t w l works r a =
     let right = list-permitted (cellsOf (t .table)) l (works .permitted) in
     let made = applies-made t l (oneByOne (t .table) l (length l)) refl (w .shaped) (well-formed t w) (omega (arith, right)) in
     let ok : r .number ≡ accepted = ap (λ (x : TaskReply). x .number) (applies-unique t l r _ a made) in
     let is = a .applied ok in
     let valid = applied-valid t l (r .task) is works in
-    (ok, valid, valid-checked-zero (r .task) (applied-well t l (r .task) w (works .permitted) is) valid)
+    let well = applied-well t l (r .task) w (works .permitted) is in
+    (ok, valid, λ run there. valid-checked-zero (r .task) run well there (valid run there))

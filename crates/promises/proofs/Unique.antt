@@ -63,8 +63,8 @@ pub write-unique : (t : Task) (room : List ℕ) → Determined (WriteGives t roo
 write-unique t room = one-given (write-gives t room) (equation (written t room))
 
 -- check_run
-pub check-unique : (t : Task) → Determined (CheckGives t)
-check-unique t = one-given (check-gives t) (equation (checked t))
+pub check-unique : (t : Task) (run : ℕ) → Determined (CheckGives t run)
+check-unique t run = one-given (check-gives t run) (equation (checked t run))
 
 -- apply
 pub apply-unique : (t : Task) (l : List ℕ) → Determined (ApplyGives t l)

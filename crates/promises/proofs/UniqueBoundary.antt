@@ -94,9 +94,9 @@ pub zp-record-unique : (file : List ℕ) (at : ℕ) (answer : List ℕ) → Dete
 unfolding HandsRecord
 zp-record-unique file at answer = one-given (zp-record-gives file at answer) (alone (equation (recordWords (recordAt file at))))
 
-pub zp-check-unique : (ws answer : List ℕ) → Determined (ZpCheckGives ws answer)
+pub zp-check-unique : (ws : List ℕ) (run : ℕ) (answer : List ℕ) → Determined (ZpCheckGives ws run answer)
 unfolding ChecksRun
-zp-check-unique ws answer = one-given (zp-check-gives ws answer) (alone (equation (checkedWords (checked (taskIn ws)))))
+zp-check-unique ws run answer = one-given (zp-check-gives ws run answer) (alone (equation (checkedWords (checked (taskIn ws) run))))
 
 -- zp_read: the words of the one task that is read
 pub zp-read-unique : (file answer : List ℕ) → Determined (ZpReadGives file answer)
@@ -140,12 +140,12 @@ zp-apply-unique ws list answer =
     λ i. (same i, left-as-told ws same (a .1) (b .1) i)))
 
 -- zp_edit: number and place, the task's words and the table afterwards
-pub zp-edit-unique : (ws : List ℕ) (kind action fact present : ℕ) (table answer : List ℕ)
-    → Determined (ZpEditGives ws kind action fact present table answer)
+pub zp-edit-unique : (ws : List ℕ) (kind whose fact present : ℕ) (table answer : List ℕ)
+    → Determined (ZpEditGives ws kind whose fact present table answer)
 unfolding EditsSession
-zp-edit-unique ws kind action fact present table answer r q a b =
-    let told = zp-edit-gives ws kind action fact present table answer in
-    let e = editOf kind action fact present in
+zp-edit-unique ws kind whose fact present table answer r q a b =
+    let told = zp-edit-gives ws kind whose fact present table answer in
+    let e = editOf kind whose fact present in
     let same = lending {L = List ℕ × List ℕ} {Kept = λ l. (l .0 ≡ ws) × (l .1 ≡ table)}
     (λ y l. Edits (taskIn ws) table e y (l .1) × (l .0 ≡ lentBack ws (y .number) (y .task)))
     (λ (y : TaskReply). changedWords (y .number) (y .place))

@@ -5,13 +5,13 @@ use mathlib.Core.List.{List, [], _∷_}
 use Prim.Native.Nat.{ℕ, _+_, _-_, _*_}
 use lib.Dec.{eqb}
 use Rattle.table.specs.Counting.{everyBelow, someBelow}
-use Rattle.table.specs.Deciding.{isAllRight, isShaped}
+use Rattle.table.specs.Deciding.{isAllRight, isFormed}
 use Rattle.table.specs.Answer.{Verdict, found, over, hopeless}
 use Rattle.table.specs.Order.{isIn}
 use Rattle.table.specs.Repairs.{permitted, repaired, factOf}
 use Rattle.table.specs.Sizes.{perFact}
 use Rattle.table.specs.Strips.{Cells, Courses}
-use Rattle.table.specs.Tasks.{cellsOf, coursesOf, formed}
+use Rattle.table.specs.Tasks.{cellsOf, coursesOf}
 use Rattle.table.specs.declared.Task.{Task}
 
 -- The fact is right in the table with a list applied.
@@ -38,7 +38,7 @@ certifies c rs f hopeless =
 -- Every fact's verdict is certified, and the task is well formed with arrays of their declared lengths.
 unfoldable pub certified : Task → (ℕ → Verdict) → Bool
 certified t v =
-    isShaped t && formed t && everyBelow (λ f. certifies (cellsOf (t .table)) (coursesOf t) f (v f)) (t .table .facts)
+    isFormed t && everyBelow (λ f. certifies (cellsOf (t .table)) (coursesOf t) f (v f)) (t .table .facts)
 
 -- The repairs of fact f in a list.
 unfoldable pub ofFact : List ℕ → ℕ → List ℕ

@@ -1,5 +1,6 @@
 -- The bench sheet of document 01 as one table: the starred rows, 1 to 11, in the words of the calls' contracts and with the paper's own
--- numbers, and beside them the run check of their tasks and of row 12's; and 01's table of refusals by small files. The tasks are in table/specs/Bench, the files in taskformat/specs/BenchFiles.
+-- numbers, and beside them the run check of their tasks and of row 12's; 01's table of refusals, with 02's 16, by small files; and two runs (02,
+-- request 1). The tasks are in table/specs/Bench, the files in taskformat/specs/BenchFiles.
 use mathlib.Core.Bool.{false}
 use mathlib.Core.List.{List, [], _∷_}
 use mathlib.Core.Path.{_≡_}
@@ -20,6 +21,7 @@ use Rattle.rows.specs.Tables.{rowAt}
 use Rattle.table.specs.Bench.{task, listingTask, limited, strayTask, goalsAtStart, goalOutOfReach, addsAndDeletes, deletesTheGoal, needsLastFact, pairs}
 use Rattle.table.specs.Order.{_≼_}
 use Rattle.table.specs.Sizes.{maxLimit}
+use Rattle.table.specs.Worked.{twoRuns}
 use Rattle.table.specs.Tasks.{WorksFor}
 use Rattle.table.specs.declared.Reply.{Reply}
 use Rattle.table.specs.declared.Task.{Task}
@@ -34,8 +36,8 @@ pub data BenchRow : Type 0 where
   reads : List ℕ → ℕ → TaskReply → BenchRow
   -- the listing of a file is this text, in whatever room is lent
   lists : List ℕ → String → BenchRow
-  -- the run check of a task gives this
-  checks : Task → Checked → BenchRow
+  -- the check of a run of a task gives this
+  checks : Task → ℕ → Checked → BenchRow
   -- a solve of a task gives this list, into whatever room is lent that is enough for it (else 11)
   solves : Task → List ℕ → BenchRow
   -- a solve of a task is refused with this number, whatever room is lent
@@ -49,7 +51,7 @@ pub data BenchRow : Type 0 where
 abbrev pub Stands : BenchRow → Type 0
 Stands (reads file bytes r) = (length file ≡ bytes) × Only (ReadsFile file) r
 Stands (lists file text) = (room : List ℕ) → Only (ListsInto file room) (given (bytesOf text) room)
-Stands (checks t c) = Only (λ (r : Checked). r ≡ checked t) c
+Stands (checks t run c) = Only (λ (r : Checked). r ≡ checked t run) c
 Stands (solves t l) = (room : List ℕ) → Only (Solves t room) (given l room)
 Stands (refuses t n) = (room : List ℕ) → Only (Solves t room) (refused n room)
 Stands (works-later t m l) = WorksFor t m × (m ≼ l → ⊥)
@@ -87,27 +89,27 @@ sheet =
     reads [] 0 (refusedRead 1 0) ∷
     -- 2. The file above: 36 bytes, list 97, 224.
     reads listingFile 36 (acceptedRead listingTask) ∷
-    checks listingTask (openNeeds 2 3 1) ∷
+    checks listingTask 0 (openNeeds 2 3 1) ∷
     solves listingTask (97 ∷ 224 ∷ []) ∷
     lists listingFile listingText ∷
     -- 3. The same, L = 1: 10. L = 2: list 97, 224.
     refuses (limited 1) 10 ∷
     solves (limited 2) (97 ∷ 224 ∷ []) ∷
     -- 4. No steps, goals within start: empty list.
-    checks goalsAtStart (openNeeds 0 0 0) ∷
+    checks goalsAtStart 0 (openNeeds 0 0 0) ∷
     solves goalsAtStart [] ∷
     -- 5. No steps, goal 0, empty start: 9.
-    checks goalOutOfReach (openNeeds 1 1 0) ∷
+    checks goalOutOfReach 0 (openNeeds 1 1 0) ∷
     refuses goalOutOfReach 9 ∷
     -- 6. One action that adds and deletes fact 0, one step, goal 0, empty start: empty list.
-    checks addsAndDeletes (openNeeds 0 0 0) ∷
+    checks addsAndDeletes 0 (openNeeds 0 0 0) ∷
     solves addsAndDeletes [] ∷
     -- 7. One action that deletes 0, one step, start and goal 0: list 0 (32 works too, and comes later).
-    checks deletesTheGoal (openNeeds 1 2 0) ∷
+    checks deletesTheGoal 0 (openNeeds 1 2 0) ∷
     solves deletesTheGoal (0 ∷ []) ∷
     works-later deletesTheGoal (32 ∷ []) (0 ∷ []) ∷
     -- 8. F 64, A 1, the action needs 63, one step, empty start, L 1: list 6112.
-    checks needsLastFact (openNeeds 1 1 63) ∷
+    checks needsLastFact 0 (openNeeds 1 1 63) ∷
     solves needsLastFact (6112 ∷ []) ∷
     -- 9. Case 2, edit delete (1, 1) to absent: list 224, row 2 untouched.
     edits listingTask deleteAbsent (224 ∷ []) untouched ∷
@@ -117,12 +119,12 @@ sheet =
     lists byteAppended refusedText ∷
     -- 11. Case 2 with its last step 03: 5 at 33. As a task it is not well formed.
     reads strayStep 36 (refusedRead 5 33) ∷
-    checks strayTask (refusedCheck 12) ∷
+    checks strayTask 0 (refusedCheck 12) ∷
     -- 12, which has no star, for the run check alone: six pairs, and seven.
-    checks (pairs 6) (openNeeds 6 2 0) ∷
-    checks (pairs 7) (openNeeds 7 2 0) ∷ []
+    checks (pairs 6) 0 (openNeeds 6 2 0) ∷
+    checks (pairs 7) 0 (openNeeds 7 2 0) ∷ []
 
--- ---- 01's table of refusals, 1 to 8: small files of four facts, three actions and the limit 3
+-- ---- 01's table of refusals, 1 to 8, and 02's 16: small files of four facts, three actions and the limit 3
 
 abbrev sized : List ℕ → List ℕ
 sized rest = 1 ∷ 4 ∷ 3 ∷ 3 ∷ rest
@@ -138,7 +140,7 @@ refusalFiles =
     reads (sized []) 4 (refusedRead 1 4) ∷
     reads (sized (4 ∷ 0 ∷ [])) 6 (refusedRead 1 4) ∷
     -- 2: "unknown kind"
-    reads (sized (9 ∷ [])) 5 (refusedRead 2 4) ∷
+    reads (sized (0 ∷ [])) 5 (refusedRead 2 4) ∷
     -- 3: "first kind isn't 1, or 1 comes again"
     reads (8 ∷ []) 1 (refusedRead 3 0) ∷
     reads (sized (1 ∷ [])) 5 (refusedRead 3 4) ∷
@@ -152,10 +154,35 @@ refusalFiles =
     -- 6: "kind goes down, or body doesn't ascend"
     reads (sized (3 ∷ 0 ∷ 2 ∷ 0 ∷ [])) 8 (refusedRead 6 6) ∷
     reads (sized (2 ∷ 1 ∷ 2 ∷ 1 ∷ [])) 8 (refusedRead 6 6) ∷
+    -- 02, request 1: "Kinds 4 to 6 after a kind 9 get 6"; the order of the others begins anew, and then holds
+    reads (sized (9 ∷ 4 ∷ 0 ∷ 0 ∷ [])) 8 (refusedRead 6 5) ∷
+    reads (sized (9 ∷ 3 ∷ 0 ∷ 2 ∷ 0 ∷ [])) 9 (refusedRead 6 7) ∷
+    -- 16: "at its kind byte, for a ninth run"
+    reads (sized (9 ∷ 9 ∷ 9 ∷ 9 ∷ 9 ∷ 9 ∷ 9 ∷ 9 ∷ [])) 12 (refusedRead 16 11) ∷
     -- 7: "a 65th step"
     reads (sized (stepsOf 65)) 134 (refusedRead 7 132) ∷
+    reads (sized (9 ∷ stepsOf 65)) 135 (refusedRead 7 133) ∷
     -- 8: "bytes after the end", at the "first such byte"
     reads (sized (8 ∷ 8 ∷ [])) 6 (refusedRead 8 5) ∷ []
+
+-- ---- two runs (02, request 1): row 7 with a second run that starts without fact 0, as a task and as a file
+
+abbrev pub twoRunsFile : List ℕ
+twoRunsFile = 1 ∷ 1 ∷ 1 ∷ 6 ∷ 2 ∷ 0 ∷ 3 ∷ 0 ∷ 6 ∷ 0 ∷ 0 ∷ 7 ∷ 0 ∷ 9 ∷ 3 ∷ 0 ∷ 7 ∷ 0 ∷ 8 ∷ []
+
+-- The steps are summed, and each run has its open line.
+abbrev pub twoRunsText : String
+twoRunsText = "task 1 1 6 2\nopen 1 2 0\nopen 1 2 0\nset 1\nadd-effect 0 0\nend\n"
+
+abbrev pub severalRuns : List BenchRow
+severalRuns =
+    reads twoRunsFile 19 (acceptedRead twoRuns) ∷
+    checks twoRuns 1 (openNeeds 1 2 0) ∷
+    -- "14 covers a run that isn't there"
+    checks twoRuns 2 (refusedCheck 14) ∷
+    -- "The answer is the first shortest list that makes all runs valid": 0, row 7's, does not
+    solves twoRuns (32 ∷ []) ∷
+    lists twoRunsFile twoRunsText ∷ []
 
 -- ---- the sources' own examples, facts and actions numbered in reading order
 

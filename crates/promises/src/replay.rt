@@ -16,10 +16,10 @@ fn edit_at(edits: &[u16], at: usize) -> Edit
     ensures { λ r. ⌜ r ≡ editAt (now (edits .entry)) at ⌝ }
 {
     let kind = edits[at] as usize;
-    let action = edits[at + 1] as usize;
+    let whose = edits[at + 1] as usize;
     let fact = edits[at + 2] as usize;
     let present = edits[at + 3] as usize;
-    edit_of(kind, action, fact, present)
+    edit_of(kind, whose, fact, present)
 }
 
 // Makes the edits one after another, accepted or refused, and gives the task that they make.

@@ -1,25 +1,40 @@
-// Which facts are wrong, in one pass over the run with masks.
+// Which facts are wrong, in one pass over each run with masks.
+use table::STEPS;
 use table::Task;
+ghost use Prim.Native.Nat.{_<_};
 ghost use Rattle.table.specs.Tasks.{WellFormed};
-ghost use Rattle.rows.specs.Wrong.{WrongFacts};
+ghost use Rattle.rows.specs.Wrong.{WrongIn, WrongFacts};
 
-// The facts that a step needs where they are absent, and the goals that are absent at the end.
-pub(crate) fn wrong_facts(t: Task) -> u64
-    requires { ⌜ WellFormed t ⌝ }
-    ensures { λ r. ⌜ WrongFacts t r ⌝ }
+// The facts that a step of the run needs where they are absent, and its goals that are absent at the end.
+fn wrong_in(t: Task, run: usize) -> u64
+    requires { ⌜ WellFormed t × (run < t .runs .many) ⌝ }
+    ensures { λ r. ⌜ WrongIn t run r ⌝ }
 {
     let needs = t.table.needs;
     let adds = t.table.adds;
     let deletes = t.table.deletes;
-    let steps = t.run.steps;
-    let count = t.run.count;
-    let mut state = t.run.start;
+    let runs = t.runs;
+    let count = runs.counts[run];
+    let first = STEPS * run;
+    let mut state = runs.starts[run];
     let mut wrong = 0;
     for i in 0..count {
-        let a = steps[i] as usize;
+        let a = runs.steps[first + i] as usize;
         wrong = facts::join(wrong, facts::remove(needs[a], state));
         state = facts::join(facts::remove(state, deletes[a]), adds[a]);
     }
-    let goal = t.run.goal;
-    facts::join(wrong, facts::remove(goal, state))
+    let goals = t.runs.goals;
+    facts::join(wrong, facts::remove(goals[run], state))
+}
+
+// The facts that are wrong in some run.
+pub(crate) fn wrong_facts(t: Task) -> u64
+    requires { ⌜ WellFormed t ⌝ }
+    ensures { λ r. ⌜ WrongFacts t r ⌝ }
+{
+    let mut wrong = 0;
+    for run in 0..t.runs.many {
+        wrong = facts::join(wrong, wrong_in(t, run));
+    }
+    wrong
 }

@@ -15,7 +15,7 @@ use Rattle.table.specs.Refusals.{accepted}
 use Rattle.table.specs.Repairs.{dropNeed}
 use Rattle.table.specs.Sizes.{maxFacts}
 use Rattle.table.specs.Strips.{Cells, Course}
-use Rattle.table.specs.Tasks.{WellFormed, cellsOf, courseOf, maskOf}
+use Rattle.table.specs.Tasks.{WellFormed, cellsOf, goalOf, countOf, stepOf, courseOf, maskOf}
 use Rattle.table.specs.declared.Task.{Task}
 use Rattle.table.proofs.FlagLaws.{by-order}
 use Rattle.table.proofs.CountingLaws.{
@@ -131,41 +131,43 @@ module _ (c : Cells) (r : Course) (states : States) where
     tally-next =
         by-order 0 (sum n) later (λ l. by-order 0 absent (first (omega arith)) (λ z. none (omega arith) (omega arith)))
 
--- ---- the same for a task: masks for sets
+-- ---- the same for a run of a task: masks for sets
 
-abbrev pub tallyOf : Task → States → ℕ → Tally
-tallyOf t = tallyAt (cellsOf (t .table)) (courseOf (t .run))
+abbrev pub tallyOf : Task → ℕ → States → ℕ → Tally
+tallyOf t run = tallyAt (cellsOf (t .table)) (courseOf (t .runs) run)
 
 -- The mask `state` has the facts that are present before step i.
 abbrev pub IsState : States → ℕ → ℕ → Type 0
 IsState states i state = (f : ℕ) → has state f ≡ states i f
 
-pub tallyOf-le : (t : Task) → WellFormed t → (states : States) (i : ℕ) → tallyOf t states i .total ≤ i * maxFacts
+pub tallyOf-le : (t : Task) → WellFormed t → (run : ℕ) (states : States) (i : ℕ) → tallyOf t run states i .total ≤ i * maxFacts
 unfolding cellsOf
-tallyOf-le t w states i = tally-le (cellsOf (t .table)) (courseOf (t .run)) states i (w .facts-high)
+tallyOf-le t w run states i = tally-le (cellsOf (t .table)) (courseOf (t .runs) run) states i (w .facts-high)
 
-module _ (t : Task) (w : WellFormed t) (states : States) (i state : ℕ) (is-state : IsState states i state) where
+module _ (t : Task) (w : WellFormed t) (run : ℕ) (states : States) (i state : ℕ) (is-state : IsState states i state) where
   -- the mask m has what step i wants, or the goals, and "no set has a fact at or above F"
   wanted-next : (m : ℕ) → ((f : ℕ) → t .table .facts ≤ f → has m f ≡ false)
-      → ((f : ℕ) → has m f ≡ cond (ltb i (t .run .count)) (has (maskOf (t .table) dropNeed (getD (t .run .steps) i 0)) f) (has (t .run .goal) f))
-      → noted (tallyOf t states i) (removed m state) (i + 1) ≡ tallyOf t states (i + 1)
+      → ((f : ℕ) → has m f ≡ cond (ltb i (countOf (t .runs) run)) (has (maskOf (t .table) dropNeed (stepOf (t .runs) run i)) f) (has (goalOf (t .runs) run) f))
+      → noted (tallyOf t run states i) (removed m state) (i + 1) ≡ tallyOf t run states (i + 1)
   unfolding isOpen cellsOf courseOf
   wanted-next m inside wanted =
-      tally-next (cellsOf (t .table)) (courseOf (t .run)) states i (removed m state) (w .facts-high)
+      tally-next (cellsOf (t .table)) (courseOf (t .runs) run) states i (removed m state) (w .facts-high)
       (removed-lt (t .table .facts) m state (within-lt m (t .table .facts) (has-within m (t .table .facts) inside)))
       (λ f. has-removed m state f ∙ (λ j. wanted f j && not (is-state f j)))
 
-  pub needs-next : i < t .run .count
-      → noted (tallyOf t states i) (removed (getD (t .table .needs) (getD (t .run .steps) i 0) 0) state) (i + 1) ≡ tallyOf t states (i + 1)
+  pub needs-next : i < countOf (t .runs) run
+      → noted (tallyOf t run states i) (removed (getD (t .table .needs) (stepOf (t .runs) run i) 0) state) (i + 1) ≡ tallyOf t run states (i + 1)
   needs-next h =
-      wanted-next (getD (t .table .needs) (getD (t .run .steps) i 0) 0) (w .inside dropNeed (getD (t .run .steps) i 0))
-      (λ f. rw (lt-ltb i (t .run .count) h))
+      wanted-next (getD (t .table .needs) (stepOf (t .runs) run i) 0) (w .inside dropNeed (stepOf (t .runs) run i))
+      (λ f. rw (lt-ltb i (countOf (t .runs) run) h))
 
-  pub goals-next : i ≡ t .run .count
-      → noted (tallyOf t states i) (removed (t .run .goal) state) (t .run .count + 1) ≡ tallyOf t states (t .run .count + 1)
+  pub goals-next : i ≡ countOf (t .runs) run
+      → noted (tallyOf t run states i) (removed (goalOf (t .runs) run) state) (countOf (t .runs) run + 1) ≡
+      tallyOf t run states (countOf (t .runs) run + 1)
   goals-next e =
-      let next = wanted-next (t .run .goal) (w .goal-inside) (λ f. rw (le-ltb i (t .run .count) (omega arith))) in
-      (λ j. noted (tallyOf t states i) (removed (t .run .goal) state) (sym e j + 1)) ∙ next ∙ ap (λ (k : ℕ). tallyOf t states (k + 1)) e
+      let next = wanted-next (goalOf (t .runs) run) (w .goal-inside run) (λ f. rw (le-ltb i (countOf (t .runs) run) (omega arith))) in
+      (λ j. noted (tallyOf t run states i) (removed (goalOf (t .runs) run) state) (sym e j + 1)) ∙ next ∙
+      ap (λ (k : ℕ). tallyOf t run states (k + 1)) e
 
 -- ---- the tally of all is the report
 

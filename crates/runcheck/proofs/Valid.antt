@@ -1,4 +1,5 @@
--- The total of open needs is 0 exactly if the run is valid (01, "The run check" and "The model and its run"), for any well-formed task.
+-- The total of open needs is 0 exactly if the run is valid (01, "The run check" and "The model and its run"), for each run of any well-formed
+-- task.
 -- Assumes nothing.
 use mathlib.Core.Bool.{Bool, true, false, not, _&&_, true≢false}
 use mathlib.Core.Path.{_≡_, refl, sym, ap, _∙_}
@@ -6,8 +7,7 @@ use Prim.Native.Nat.{ℕ, _+_, _<_, _≤_}
 use native.Mathlib.Nat.{le-refl, le-of-lt}
 use native.Mathlib.Omega.{arith}
 use borrow.Author.Tests.{lt-ltb, le-ltb}
-use Rattle.table.specs.Join.{Inside}
-use Rattle.table.specs.Strips.{Cells, Course, one, Valid, stateAt}
+use Rattle.table.specs.Strips.{Cells, Course, Valid, stateAt}
 use Rattle.table.specs.Tasks.{WellFormed, cellsOf, courseOf}
 use Rattle.table.specs.declared.Task.{Task}
 use Rattle.table.proofs.FlagLaws.{by-order}
@@ -35,11 +35,12 @@ module _ (c : Cells) (r : Course) (states : States) where
       countBelow-zero (isOpen c r states i) (c .facts) (sumBelow-zero (openAt c r states) (r .count + 1) e i (omega arith)) f l
 
   -- where no need and no goal is at F or above, no fact is open at all
-  pub total-open : Inside c (one r) → totalOpen c r states ≡ 0 → (i f : ℕ) → i ≤ r .count → isOpen c r states i f ≡ false
+  pub total-open : ((a f : ℕ) → c .facts ≤ f → c .needs a f ≡ false) → ((f : ℕ) → c .facts ≤ f → r .goal f ≡ false)
+      → totalOpen c r states ≡ 0 → (i f : ℕ) → i ≤ r .count → isOpen c r states i f ≡ false
   unfolding isOpen
-  total-open inside e i f h =
+  total-open needs goal e i f h =
       by-order f (c .facts) (total-none e i f h) (λ l.
-      by-order i (r .count) (λ k. rw (lt-ltb i (r .count) k, inside .needs (r .step i) f l)) (λ k. rw (le-ltb i (r .count) k, inside .goal 0 (omega arith) f l)))
+      by-order i (r .count) (λ k. rw (lt-ltb i (r .count) k, needs (r .step i) f l)) (λ k. rw (le-ltb i (r .count) k, goal f l)))
 
   pub open-total : ((i f : ℕ) → i ≤ r .count → isOpen c r states i f ≡ false) → totalOpen c r states ≡ 0
   unfolding totalOpen openAt
@@ -70,24 +71,28 @@ module _ (c : Cells) (r : Course) where
   pub valid-total : Valid c r → totalOpen c r states ≡ 0
   valid-total v = open-total c r states (valid-none v)
 
-  pub total-valid : Inside c (one r) → totalOpen c r states ≡ 0 → Valid c r
-  total-valid inside e =
-      let none = total-open c r states inside e in
+  pub total-valid : ((a f : ℕ) → c .facts ≤ f → c .needs a f ≡ false) → ((f : ℕ) → c .facts ≤ f → r .goal f ≡ false)
+      → totalOpen c r states ≡ 0 → Valid c r
+  total-valid needs goal e =
+      let none = total-open c r states needs goal e in
       record {
         may-run = λ i h f. present (c .needs (r .step i) f) (states i f) (sym (open-step c r states i f h) ∙ none i f (le-of-lt h));
         reaches = λ f. present (r .goal f) (states (r .count) f) (sym (open-goal c r states f) ∙ none (r .count) f (le-refl (r .count)));
       }
 
--- ---- for a task
+-- ---- for a run of a task
 
-module _ (t : Task) where
+module _ (t : Task) (run : ℕ) where
   abbrev pub ValidRun : Type 0
-  ValidRun = Valid (cellsOf (t .table)) (courseOf (t .run))
+  ValidRun = Valid (cellsOf (t .table)) (courseOf (t .runs) run)
 
   -- of a well-formed task the call's total is 0 exactly if the run is valid
-  pub checked-zero-valid : WellFormed t → checked t .total ≡ 0 → ValidRun
-  checked-zero-valid w e =
-      total-valid (cellsOf (t .table)) (courseOf (t .run)) (formed-inside t w) (sym (checked-total t (well-formed t w)) ∙ e)
+  pub checked-zero-valid : WellFormed t → run < t .runs .many → checked t run .total ≡ 0 → ValidRun
+  checked-zero-valid w there e =
+      let inside = formed-inside t w in
+      total-valid (cellsOf (t .table)) (courseOf (t .runs) run) (inside .needs) (inside .goal run there)
+      (sym (checked-total t run (well-formed t w) there) ∙ e)
 
-  pub valid-checked-zero : WellFormed t → ValidRun → checked t .total ≡ 0
-  valid-checked-zero w v = checked-total t (well-formed t w) ∙ valid-total (cellsOf (t .table)) (courseOf (t .run)) v
+  pub valid-checked-zero : WellFormed t → run < t .runs .many → ValidRun → checked t run .total ≡ 0
+  valid-checked-zero w there v =
+      checked-total t run (well-formed t w) there ∙ valid-total (cellsOf (t .table)) (courseOf (t .runs) run) v

@@ -1,4 +1,4 @@
--- Open needs: document 01, "The run check". "It takes the steps in order. Step i, counted from 1, has as open needs the
+-- Open needs: document 01, "The run check"; 02, request 1: "a run check names its run". "It takes the steps in order. Step i, counted from 1, has as open needs the
 -- needs of its action that are absent; its effects are applied all the same. Goals absent at the end are open needs of
 -- step n+1." Here step i counts from 0, so the goals are those of step n. What is present before step i is `states i`, for any
 -- states whatever; which they are, `checked` says.
@@ -6,7 +6,7 @@ use mathlib.Core.Bool.{Bool, cond, not, _&&_}
 use Prim.Native.Nat.{ℕ, _+_}
 use lib.Dec.{eqb, ltb}
 use Rattle.table.specs.Counting.{sumBelow, countBelow, firstWhere}
-use Rattle.table.specs.Refusals.{accepted, notWellFormed}
+use Rattle.table.specs.Refusals.{accepted, notWellFormed, notThere}
 use Rattle.table.specs.Strips.{Cells, Course, stateAt}
 use Rattle.table.specs.Tasks.{cellsOf, courseOf, formed}
 use Rattle.table.specs.declared.Task.{Task}
@@ -49,11 +49,13 @@ openReport c r states =
     (openNeeds 0 0 0)
     (openNeeds (totalOpen c r states) (firstOpen c r states + 1) (lowestOpen c r states))
 
--- The states of the run check: "its effects are applied all the same".
-abbrev pub statesOf : Task → States
-statesOf t = stateAt (cellsOf (t .table)) (courseOf (t .run))
+-- The states of the run check of a run: "its effects are applied all the same".
+abbrev pub statesOf : Task → ℕ → States
+statesOf t run = stateAt (cellsOf (t .table)) (courseOf (t .runs) run)
 
--- 12 for a task that is not well formed.
-unfoldable pub checked : Task → Checked
-checked t =
-    cond {A = Checked} (formed t) (openReport (cellsOf (t .table)) (courseOf (t .run)) (statesOf t)) (refusedCheck notWellFormed)
+-- 12 for a task that is not well formed; then "14 covers a run that isn't there" (02, request 1).
+unfoldable pub checked : Task → ℕ → Checked
+checked t run =
+    cond {A = Checked} (not (formed t)) (refusedCheck notWellFormed)
+    (cond {A = Checked} (not (ltb run (t .runs .many))) (refusedCheck notThere)
+    (openReport (cellsOf (t .table)) (courseOf (t .runs) run) (statesOf t run)))

@@ -1,11 +1,12 @@
-// The run check (document 01, "The run check").
+// The run check (document 01, "The run check"; 02, request 1: it names its run).
+use table::STEPS;
 use table::Task;
 use table::refusals;
 ghost use mathlib.Core.Path.{_≡_};
-ghost use Prim.Native.Nat.{_+_, _*_, _≤_};
+ghost use Prim.Native.Nat.{_+_, _*_, _<_, _≤_};
 ghost use Rattle.table.specs.Sizes.{maxFacts, maxSteps};
-ghost use Rattle.table.specs.Tasks.{WellFormed, cellsOf, courseOf};
-ghost use Rattle.runcheck.specs.OpenNeeds.{statesOf, checked};
+ghost use Rattle.table.specs.Tasks.{WellFormed, cellsOf, countOf, courseOf};
+ghost use Rattle.runcheck.specs.OpenNeeds.{statesOf, refusedCheck, checked};
 ghost use Rattle.runcheck.specs.Tallies.{noted, stepped, tallyAt};
 
 // What a run check answers: 0 and 0, or the refusal; the total of open needs, the first step that has one, counted
@@ -52,44 +53,54 @@ fn after_step(state: u64, adds: u64, deletes: u64) -> u64
 
 // The steps in order, each with its needs that are absent, "its effects are applied all the same"; then the goals, as
 // the needs of one step more.
-fn tally_run(t: Task) -> Tally
-    requires { ⌜ WellFormed t ⌝ }
-    ensures { λ r. ⌜ r ≡ tallyAt (cellsOf (t .table)) (courseOf (t .run)) (statesOf t) (t .run .count + 1) ⌝ }
+fn tally_run(t: Task, run: usize) -> Tally
+    requires { ⌜ WellFormed t × (run < t .runs .many) ⌝ }
+    ensures { λ r. ⌜ r ≡ tallyAt (cellsOf (t .table)) (courseOf (t .runs) run) (statesOf t run) (countOf (t .runs) run + 1) ⌝ }
 {
     let needs = t.table.needs;
     let adds = t.table.adds;
     let deletes = t.table.deletes;
-    let steps = t.run.steps;
-    let count = t.run.count;
-    let mut state = t.run.start;
+    let runs = t.runs;
+    let count = runs.counts[run];
+    let first = STEPS * run;
+    let mut state = runs.starts[run];
     let mut tally = Tally {
         total: 0,
         step: 0,
         fact: 0,
     };
     for i in 0..count {
-        let a = steps[i] as usize;
+        let a = runs.steps[first + i] as usize;
         tally = note(tally, facts::remove(needs[a], state), i + 1);
         state = after_step(state, adds[a], deletes[a]);
     }
-    let goal = t.run.goal;
-    note(tally, facts::remove(goal, state), count + 1)
+    let goals = t.runs.goals;
+    note(tally, facts::remove(goals[run], state), count + 1)
 }
 
-// The check of any task; 12 for one that is not well formed.
-pub fn check_run(t: Task) -> Checked
-    ensures { λ r. ⌜ r ≡ checked t ⌝ }
+fn refused(number: usize) -> Checked
+    ensures { λ r. ⌜ r ≡ refusedCheck number ⌝ }
+{
+    Checked {
+        number,
+        place: 0,
+        total: 0,
+        step: 0,
+        fact: 0,
+    }
+}
+
+// The check of any run of any task; 12 for a task that is not well formed, 14 for a run that isn't there.
+pub fn check_run(t: Task, run: usize) -> Checked
+    ensures { λ r. ⌜ r ≡ checked t run ⌝ }
 {
     if !table::formed::is_formed(t) {
-        return Checked {
-            number: refusals::NOT_WELL_FORMED,
-            place: 0,
-            total: 0,
-            step: 0,
-            fact: 0,
-        };
+        return refused(refusals::NOT_WELL_FORMED);
     }
-    let tally = tally_run(t);
+    if t.runs.many <= run {
+        return refused(refusals::NOT_THERE);
+    }
+    let tally = tally_run(t, run);
     Checked {
         number: refusals::ACCEPTED,
         place: 0,

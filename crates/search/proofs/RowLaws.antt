@@ -123,20 +123,20 @@ module _ (t : Task) (f : ℕ) (row : List ℕ) (col : Column) (own : col .fact �
   for-fact : RightRow t (col .fact) row → RightRow t f row
   for-fact right = subst (λ (g : ℕ). RightRow t g row) own right
 
-  pub found-row : (any : Bool) (best : Choice) → any ≡ true → Shortest col (coursesIn col (t .run .steps)) any best → row ≡ rowOf (found (listOf f best)) → RightRow t f row
+  pub found-row : (any : Bool) (best : Choice) → any ≡ true → Shortest col (coursesIn col (t .runs .steps)) any best → row ≡ rowOf (found (listOf f best)) → RightRow t f row
   found-row false best some short e = absurd (false≢true some)
   found-row true best some short e =
       for-fact record {
         verdict = found (listOf (col .fact) best);
         within = (
-          first-same (KeepsIn col (coursesIn col (t .run .steps))) (KeepsFor t (col .fact)) (in-keeps t col shows here) (keeps-in t col shows here) (listOf (col .fact) best) (short .0),
+          first-same (KeepsIn col (coursesIn col (t .runs .steps))) (KeepsFor t (col .fact)) (in-keeps t col shows here) (keeps-in t col shows here) (listOf (col .fact) best) (short .0),
           short .1,
         );
         shown = e ∙ ap (λ (g : ℕ). rowOf (found (listOf g best))) (sym own);
       }
 
-  pub over-row : (any : Bool) (best full : Choice) → any ≡ false → Shortest col (coursesIn col (t .run .steps)) any best → Fullest col full
-      → Rightness col (coursesIn col (t .run .steps)) full true → row ≡ (rowOver ∷ replicate maxRow unused) → RightRow t f row
+  pub over-row : (any : Bool) (best full : Choice) → any ≡ false → Shortest col (coursesIn col (t .runs .steps)) any best → Fullest col full
+      → Rightness col (coursesIn col (t .runs .steps)) full true → row ≡ (rowOver ∷ replicate maxRow unused) → RightRow t f row
   unfolding rowOf
   over-row true best full nothing short most right e = absurd (false≢true (sym nothing))
   over-row false best full nothing short most right e =
@@ -145,19 +145,19 @@ module _ (t : Task) (f : ℕ) (row : List ℕ) (col : Column) (own : col .fact �
         within = (
           (
             listOf (col .fact) full,
-            in-keeps t col shows here (listOf (col .fact) full) (fullest-keeps col (coursesIn col (t .run .steps)) full most right),
+            in-keeps t col shows here (listOf (col .fact) full) (fullest-keeps col (coursesIn col (t .runs .steps)) full most right),
           ),
           λ m keeps. short m (keeps-in t col shows here m keeps),
         );
         shown = e;
       }
 
-  pub hopeless-row : (full : Choice) → Fullest col full → Rightness col (coursesIn col (t .run .steps)) full false
+  pub hopeless-row : (full : Choice) → Fullest col full → Rightness col (coursesIn col (t .runs .steps)) full false
       → row ≡ (rowHopeless ∷ replicate maxRow unused) → RightRow t f row
   unfolding rowOf
   hopeless-row full most wrong e =
       for-fact record {
         verdict = hopeless;
-        within = λ m keeps. wrong (fullest-right col (coursesIn col (t .run .steps)) full most m (keeps-in t col shows here m keeps));
+        within = λ m keeps. wrong (fullest-right col (coursesIn col (t .runs .steps)) full most m (keeps-in t col shows here m keeps));
         shown = e;
       }

@@ -26,15 +26,11 @@ use Rattle.search.proofs.SearchLaws.{right-keeps}
 use Rattle.search.specs.Choices.{inChoice, numbersIn, listOf, codeNumber, codeKind, codeAction}
 use Rattle.search.specs.Columns.{cellsIn, courseIn, coursesIn, KeepsIn, ColumnFormed}
 use Rattle.search.specs.Searching.{cellsWith}
-use Rattle.search.specs.Views.{Gathers, Shows, Fullest}
+use Rattle.search.specs.Views.{Gathers, GathersBelow, Shows, Fullest}
 use Rattle.search.specs.declared.Column.{Column}
 use Rattle.search.specs.declared.Choice.{Choice}
 
 -- ---- gathering a mask of actions
-
--- The actions below i whose set has fact f.
-abbrev pub GathersBelow : (ℕ → ℕ) → ℕ → ℕ → ℕ → Type 0
-GathersBelow sets f i m = (a : ℕ) → has m a ≡ (ltb a i && has (sets a) f)
 
 module _ (sets : ℕ → ℕ) (f : ℕ) where
   pub gathers-none : GathersBelow sets f 0 0
@@ -66,11 +62,6 @@ module _ (sets : ℕ → ℕ) (f : ℕ) where
       (λ same. subst (λ (b : ℕ). has (cond wanted (joined m (only i)) m) b ≡ (ltb b (i + 1) && has (sets b) f)) (sym same) (at-i m i wanted h g e))
       (above-i m i a wanted h g))
       (compared a i)
-
--- A mask that has the first run, if it is wanted.
-pub first-run : (m : ℕ) (wanted : Bool) → m ≡ cond wanted (joined 0 (only 0)) 0 → has m 0 ≡ wanted
-first-run m true e = ap (λ (n : ℕ). has n 0) e ∙ has-with 0 0 0 (omega arith) ∙ rw (eq-eqb 0 0 refl, has-empty 0)
-first-run m false e = ap (λ (n : ℕ). has n 0) e ∙ has-empty 0
 
 -- A row of sets is empty past its end.
 pub gathers-end : (sets : List ℕ) (f i m : ℕ) → length sets ≡ maxActions → i ≡ maxActions → GathersBelow (λ a. getD sets a 0) f i m
@@ -147,32 +138,27 @@ fullest-keeps col rs s full right = right-keeps col rs s (λ code h chosen. sym 
 -- ---- a task and its column
 
 module _ (t : Task) (col : Column) (shows : Shows t col) where
-  -- The one run of the column is the task's, at the column's fact.
-  same-course : (i : ℕ) → i < 1 → SameCourseAt (col .fact) (courseOf (t .run)) (courseIn col (t .run .steps) i)
+  -- Each run of the column is the task's, at the column's fact.
+  same-course : (i : ℕ) → i < t .runs .many → SameCourseAt (col .fact) (courseOf (t .runs) i) (courseIn col (t .runs .steps) i)
   unfolding courseOf courseIn
-  same-course i h =
-      let first : 0 ≡ i = omega arith in
-      subst (λ (k : ℕ). SameCourseAt (col .fact) (courseOf (t .run)) (courseIn col (t .run .steps) k)) first (record {
-        start = sym (shows .start);
-        goal = sym (shows .goal);
-        count = ap (λ (l : List ℕ). getD l 0 0) (sym (shows .counts));
-        steps = λ j low. let e : j ≡ 0 + j = omega arith in ap (λ (k : ℕ). getD (t .run .steps) k 0) e;
-      })
+  same-course i h = record {
+    start = sym (shows .start i ∙ rw (lt-ltb i (t .runs .many) h));
+    goal = sym (shows .goal i ∙ rw (lt-ltb i (t .runs .many) h));
+    count = ap (λ (l : List ℕ). getD l i 0) (sym (shows .counts));
+    steps = λ j low. refl;
+  }
 
-  pub shows-formed : WellFormed t → ColumnFormed col (t .run .steps)
-  unfolding courseOf
+  pub shows-formed : WellFormed t → ColumnFormed col (t .runs .steps)
+  unfolding courseOf courseIn
   shows-formed well = record {
     actions-high = omega (arith, shows .actions, well .actions-high);
-    runs-high = omega (arith, shows .runs);
+    runs-high = omega (arith, shows .runs, well .many-high);
     steps-length = well .shaped .steps;
     run = λ i h.
         let same = same-course i (omega (arith, shows .runs)) in
         record {
-          count-high = omega (arith, same .count, well .count-high);
-          steps-below = λ j low.
-              let inside : j < t .run .count = omega (arith, same .count) in
-              let below : getD (t .run .steps) j 0 < t .table .actions = well .steps-below j inside in
-              omega (arith, below, same .steps j inside, shows .actions);
+          count-high = omega (arith, same .count, well .count-high i);
+          steps-below = λ j low. omega (arith, well .steps-below i j (omega (arith, same .count)), shows .actions);
         };
   }
 
@@ -187,14 +173,14 @@ module _ (t : Task) (col : Column) (shows : Shows t col) (inside : col .fact < t
     deletes = λ a. sym (shows .deletes a);
   }
 
-  same-courses : SameCoursesAt (col .fact) (coursesOf t) (coursesIn col (t .run .steps))
+  same-courses : SameCoursesAt (col .fact) (coursesOf t) (coursesIn col (t .runs .steps))
   same-courses = record { many = sym (shows .runs); each = same-course t col shows }
 
   -- So a list keeps the fact right in the task exactly if it does so in the column.
-  pub keeps-in : (l : List ℕ) → KeepsFor t (col .fact) l → KeepsIn col (coursesIn col (t .run .steps)) l
-  keeps-in = keeps-alike (col .fact) (cellsOf (t .table)) (cellsIn col) same-cells (coursesOf t) (coursesIn col (t .run .steps)) same-courses
+  pub keeps-in : (l : List ℕ) → KeepsFor t (col .fact) l → KeepsIn col (coursesIn col (t .runs .steps)) l
+  keeps-in = keeps-alike (col .fact) (cellsOf (t .table)) (cellsIn col) same-cells (coursesOf t) (coursesIn col (t .runs .steps)) same-courses
 
-  pub in-keeps : (l : List ℕ) → KeepsIn col (coursesIn col (t .run .steps)) l → KeepsFor t (col .fact) l
+  pub in-keeps : (l : List ℕ) → KeepsIn col (coursesIn col (t .runs .steps)) l → KeepsFor t (col .fact) l
   in-keeps =
-      keeps-alike (col .fact) (cellsIn col) (cellsOf (t .table)) (alike-sym (col .fact) _ _ same-cells) (coursesIn col (t .run .steps)) (coursesOf t)
+      keeps-alike (col .fact) (cellsIn col) (cellsOf (t .table)) (alike-sym (col .fact) _ _ same-cells) (coursesIn col (t .runs .steps)) (coursesOf t)
       (sameCourses-sym (col .fact) _ _ same-courses)

@@ -1,11 +1,13 @@
 -- What a column of a task shows, and the fullest choice of a column.
-use mathlib.Core.List.{[], _∷_}
+use mathlib.Core.Bool.{_&&_}
 use mathlib.Core.Path.{_≡_}
 use Prim.Native.Nat.{ℕ, _<_}
+use lib.Dec.{ltb}
 use lib.ListN.{getD}
 use Rattle.facts.specs.Sets.{has}
 use Rattle.table.specs.Repairs.{permitted}
 use Rattle.table.specs.Sizes.{perFact}
+use Rattle.table.specs.Tasks.{startOf, goalOf}
 use Rattle.table.specs.declared.Task.{Task}
 use Rattle.search.specs.declared.Column.{Column}
 use Rattle.search.specs.declared.Choice.{Choice}
@@ -16,16 +18,20 @@ use Rattle.search.specs.Columns.{cellsIn}
 abbrev pub Gathers : (ℕ → ℕ) → ℕ → ℕ → Type 0
 Gathers sets f m = (a : ℕ) → has m a ≡ has (sets a) f
 
--- The column shows its fact of the task: which actions need, add and delete it, and its one run's start, goal and number of steps.
+-- The actions, or the runs, below n whose set has fact f.
+abbrev pub GathersBelow : (ℕ → ℕ) → ℕ → ℕ → ℕ → Type 0
+GathersBelow sets f n m = (a : ℕ) → has m a ≡ (ltb a n && has (sets a) f)
+
+-- The column shows its fact of the task: which actions need, add and delete it, and the runs' starts, goals and numbers of steps.
 pub record Shows (t : Task) (col : Column) : Type 0 where
   pub actions : col .actions ≡ t .table .actions
   pub needs : Gathers (λ a. getD (t .table .needs) a 0) (col .fact) (col .needs)
   pub adds : Gathers (λ a. getD (t .table .adds) a 0) (col .fact) (col .adds)
   pub deletes : Gathers (λ a. getD (t .table .deletes) a 0) (col .fact) (col .deletes)
-  pub runs : col .runs ≡ 1
-  pub start : has (col .start) 0 ≡ has (t .run .start) (col .fact)
-  pub goal : has (col .goal) 0 ≡ has (t .run .goal) (col .fact)
-  pub counts : col .counts ≡ (t .run .count ∷ [])
+  pub runs : col .runs ≡ t .runs .many
+  pub start : GathersBelow (startOf (t .runs)) (col .fact) (t .runs .many) (col .start)
+  pub goal : GathersBelow (goalOf (t .runs)) (col .fact) (t .runs .many) (col .goal)
+  pub counts : col .counts ≡ t .runs .counts
 
 -- Every permitted repair of the column's fact, and nothing else.
 abbrev pub Fullest : Column → Choice → Type 0

@@ -87,12 +87,11 @@ fn right_row(t: Task, f: usize) -> Filling
         return bare_row(0);
     }
     let col = view::column_of(t, f);
-    let steps = t.run.steps;
-    let found = least::shortest(col, &steps);
+    let found = least::shortest(col, &t.runs.steps);
     if found.any {
         return row_of_choice(f, found.choice);
     }
-    if lack::is_right(col, &steps, view::fullest(col)) {
+    if lack::is_right(col, &t.runs.steps, view::fullest(col)) {
         bare_row(OVER as u16)
     } else {
         bare_row(HOPELESS as u16)

@@ -9,8 +9,8 @@ ghost use mathlib.Core.Path.{_≡_};
 ghost use Prim.Native.Nat.{_≤_};
 ghost use lib.ListN.{getD};
 ghost use Rattle.facts.specs.Sets.{joined, only};
-ghost use Rattle.table.specs.Sizes.{maxActions};
-ghost use Rattle.search.specs.Views.{Gathers, Shows, Fullest};
+ghost use Rattle.table.specs.Sizes.{maxActions, maxRuns};
+ghost use Rattle.search.specs.Views.{Gathers, GathersBelow, Shows, Fullest};
 
 fn with_if(m: u64, a: usize, wanted: bool) -> u64
     ensures { λ r. ⌜ r ≡ cond wanted (joined m (only a)) m ⌝ }
@@ -29,23 +29,38 @@ fn actions_having(sets: [u64; ACTIONS], f: usize) -> u64
     m
 }
 
+// The runs whose set has fact f, of the first so many.
+fn runs_having(sets: [u64; RUNS], many: usize, f: usize) -> u64
+    requires { ⌜ many ≤ maxRuns ⌝ }
+    ensures { λ r. ⌜ GathersBelow (λ i. getD sets i 0) f many r ⌝ }
+{
+    let mut m = 0;
+    for i in 0..many {
+        m = with_if(m, i, facts::contains(sets[i], f));
+    }
+    m
+}
+
 pub(crate) fn column_of(t: Task, f: usize) -> Column
+    requires { ⌜ t .runs .many ≤ maxRuns ⌝ }
     ensures { λ r. ⌜ (r .fact ≡ f) × Shows t r ⌝ }
 {
     let needs = t.table.needs;
     let adds = t.table.adds;
     let deletes = t.table.deletes;
-    let mut counts = [0; RUNS];
-    counts[0] = t.run.count;
+    let many = t.runs.many;
+    let starts = t.runs.starts;
+    let goals = t.runs.goals;
+    let counts = t.runs.counts;
     Column {
         fact: f,
         actions: t.table.actions,
         needs: actions_having(needs, f),
         adds: actions_having(adds, f),
         deletes: actions_having(deletes, f),
-        runs: 1,
-        start: with_if(0, 0, facts::contains(t.run.start, f)),
-        goal: with_if(0, 0, facts::contains(t.run.goal, f)),
+        runs: many,
+        start: runs_having(starts, many, f),
+        goal: runs_having(goals, many, f),
         counts,
     }
 }

@@ -1,6 +1,6 @@
 -- Laws of the session's calls: which refusal is given, what each way out of a call promises, and that the promise determines the
 -- answer and what was lent. Assumes nothing.
-use mathlib.Core.Bool.{true, false, not, _&&_, false≢true}
+use mathlib.Core.Bool.{Bool, true, false, not, _&&_, false≢true}
 use mathlib.Core.List.{List, [], _∷_}
 use mathlib.Core.Path.{_≡_, refl, sym, ap, _∙_, subst}
 use Prim.Native.Nat.{ℕ, _<_}
@@ -21,7 +21,7 @@ use Rattle.table.proofs.FlagLaws.{and-right}
 use Rattle.table.proofs.Formation.{well-formed}
 use Rattle.table.proofs.RefusalLaws.{silent}
 use Rattle.table.proofs.ReplyLaws.{one-answer}
-use Rattle.table.specs.Refusals.{Refusal, firstOf, refuse, none, accepted, notWellFormed, notASession, editOutside}
+use Rattle.table.specs.Refusals.{Refusal, firstOf, refuse, none, accepted, notWellFormed, notASession, notThere}
 use Rattle.table.specs.Join.{joinVerdicts}
 use Rattle.table.specs.Sizes.{maxFacts, sessionPlaces}
 use Rattle.table.specs.Tasks.{WellFormed, formed}
@@ -59,7 +59,7 @@ module _ (t : Task) (s : List ℕ) where
     unfolding editRefusal firstOf
     edit-not-a-session h n = rw (h, ne-eqb (length s) sessionPlaces n)
 
-    pub edit-outside : formed t ≡ true → length s ≡ sessionPlaces → cellInside t (e .cell) ≡ false → editRefusal t s e ≡ at-zero editOutside
+    pub edit-outside : formed t ≡ true → length s ≡ sessionPlaces → cellInside t (e .cell) ≡ false → editRefusal t s e ≡ at-zero notThere
     unfolding editRefusal firstOf
     edit-outside h n o = rw (h, eq-eqb (length s) sessionPlaces n, o)
 
@@ -72,7 +72,7 @@ module _ (t : Task) (s : List ℕ) where
     edit-accepted h =
         let p = silent
         (refuse (not (formed t)) notWellFormed ∷ refuse (not (eqb (length s) sessionPlaces)) notASession ∷
-        refuse (not (cellInside t (e .cell))) editOutside ∷ []) (omega arith) h in (
+        refuse (not (cellInside t (e .cell))) notThere ∷ []) (omega arith) h in (
           not-false (formed t) (p .0),
           eqb-true (length s) sessionPlaces (not-false (eqb (length s) sessionPlaces) (p .1 .0)),
           not-false (cellInside t (e .cell)) (p .1 .1 .0),
@@ -117,20 +117,17 @@ module _ (t : Task) (s : List ℕ) where
         accepted = λ k. (subst (EditedTo t e) (sym made) (edited-exactly t e w o), subst (λ (g : ℕ). Rewritten u g s after) fact row);
       }
 
-of-fact : (t : Task) → WellFormed t → (f : ℕ) → ltb f (t .table .facts) ≡ true → f < maxFacts
-of-fact t w f h = omega (arith, w .facts-high, ltb-true f (t .table .facts) h)
-
-of-action : (t : Task) → WellFormed t → (a f : ℕ) → (ltb a (t .table .actions) && ltb f (t .table .facts)) ≡ true → f < maxFacts
-of-action t w a f h = of-fact t w f (and-right (ltb a (t .table .actions)) (ltb f (t .table .facts)) h)
+of-fact : (t : Task) → WellFormed t → (f : ℕ) (b : Bool) → (b && ltb f (t .table .facts)) ≡ true → f < maxFacts
+of-fact t w f b h = omega (arith, w .facts-high, ltb-true f (t .table .facts) (and-right b (ltb f (t .table .facts)) h))
 
 -- An edit inside names a fact that has a row.
 pub inside-low : (t : Task) → WellFormed t → (c : Cell) → cellInside t c ≡ true → cellFact c < maxFacts
 unfolding cellInside
-inside-low t w (Need a f) h = of-action t w a f h
-inside-low t w (Add a f) h = of-action t w a f h
-inside-low t w (Delete a f) h = of-action t w a f h
-inside-low t w (Start f) h = of-fact t w f h
-inside-low t w (Goal f) h = of-fact t w f h
+inside-low t w (Need a f) h = of-fact t w f (ltb a (t .table .actions)) h
+inside-low t w (Add a f) h = of-fact t w f (ltb a (t .table .actions)) h
+inside-low t w (Delete a f) h = of-fact t w f (ltb a (t .table .actions)) h
+inside-low t w (Start r f) h = of-fact t w f (ltb r (t .runs .many)) h
+inside-low t w (Goal r f) h = of-fact t w f (ltb r (t .runs .many)) h
 
 module _ (t : Task) (s room : List ℕ) where
   pub listed-malformed : formed t ≡ false → listed t s room ≡ refused notWellFormed room

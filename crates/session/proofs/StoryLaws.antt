@@ -60,14 +60,14 @@ module _ (t : Task) (e : Edit) (q : Task) (d : EditedTo t e q) where
 -- ---- which facts the accepted edits name
 
 -- Whether a cell is inside, and so which facts are named, depends on the sizes alone, and an edit leaves those alone.
-module _ (t q : Task) (facts : q .table .facts ≡ t .table .facts) (actions : q .table .actions ≡ t .table .actions) where
+module _ (t q : Task) (facts : q .table .facts ≡ t .table .facts) (actions : q .table .actions ≡ t .table .actions) (many : q .runs .many ≡ t .runs .many) where
   inside-same : (c : Cell) → cellInside q c ≡ cellInside t c
   unfolding cellInside
   inside-same (Need a f) = rw (facts, actions)
   inside-same (Add a f) = rw (facts, actions)
   inside-same (Delete a f) = rw (facts, actions)
-  inside-same (Start f) = rw facts
-  inside-same (Goal f) = rw facts
+  inside-same (Start r f) = rw (facts, many)
+  inside-same (Goal r f) = rw (facts, many)
 
   names-same : (es : List Edit) (f : ℕ) → names q es f ≡ names t es f
   unfolding names
@@ -95,7 +95,7 @@ module _ (t : Task) (s : List ℕ) (e : Edit) (es : List Edit) (r : TaskReply) (
         let fact : ℕ = cellFact (e .cell) in
         let none = or-neither (cellInside t (e .cell) && eqb fact f) (names t es f) n in
         let apart : eqb fact f ≡ false = sym (ap (λ (x : Bool). x && eqb fact f) inside) ∙ none .0 in
-        rest .kept f h (names-same t (r .task) (d .facts) (d .actions) es f ∙ none .1) ∙
+        rest .kept f h (names-same t (r .task) (d .facts) (d .actions) (d .many) es f ∙ none .1) ∙
         new .others f h (λ k. eqb-false fact f apart (sym k));
   }
 

@@ -12,7 +12,7 @@ use Rattle.solve.specs.Solving.{told}
 use Rattle.table.specs.Outcomes.{Outcome, refused}
 use Rattle.rows.specs.Tables.{rowAt, Stored, Rewritten}
 use Rattle.table.specs.Join.{joinVerdicts}
-use Rattle.table.specs.Refusals.{Refusal, firstOf, refuse, accepted, notWellFormed, notASession, editOutside}
+use Rattle.table.specs.Refusals.{Refusal, firstOf, refuse, accepted, notWellFormed, notASession, notThere}
 use Rattle.table.specs.Sizes.{sessionPlaces}
 use Rattle.table.specs.Tasks.{formed}
 use Rattle.table.specs.declared.Task.{Task}
@@ -36,7 +36,7 @@ unfoldable pub editRefusal : Task → List ℕ → Edit → Refusal
 editRefusal t s e =
     firstOf
     (refuse (not (formed t)) notWellFormed ∷ refuse (not (eqb (length s) sessionPlaces)) notASession ∷
-    refuse (not (cellInside t (e .cell))) editOutside ∷ [])
+    refuse (not (cellInside t (e .cell))) notThere ∷ [])
 
 -- "It gives the edited task and writes the fact's row afresh; other rows are kept as found, right or not." A refused
 -- edit returns the task it was given and writes nothing.

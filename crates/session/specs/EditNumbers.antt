@@ -25,15 +25,15 @@ goalCell = 4
 abbrev pub setAbsent : ℕ
 setAbsent = 0
 
--- A start or a goal has no action, and the number that stands there is not looked at. An unknown kind is an edit of a fact that no task
--- has, so that it is refused with 14.
+-- The second number says where: the action of a need, an add or a delete, the run of a start or a goal. An unknown kind is an edit of a
+-- fact that no task has, so that it is refused with 14.
 unfoldable pub cellOf : ℕ → ℕ → ℕ → Cell
-cellOf k a f =
-    cond {A = Cell} (eqb k needCell) (Need a f)
-    (cond {A = Cell} (eqb k addCell) (Add a f)
-    (cond {A = Cell} (eqb k deleteCell) (Delete a f)
-    (cond {A = Cell} (eqb k startCell) (Start f) (cond {A = Cell} (eqb k goalCell) (Goal f) (Start maxFacts)))))
+cellOf k whose f =
+    cond {A = Cell} (eqb k needCell) (Need whose f)
+    (cond {A = Cell} (eqb k addCell) (Add whose f)
+    (cond {A = Cell} (eqb k deleteCell) (Delete whose f)
+    (cond {A = Cell} (eqb k startCell) (Start whose f) (cond {A = Cell} (eqb k goalCell) (Goal whose f) (Start whose maxFacts)))))
 
--- The kind of cell, the action, the fact, and 0 for absent; any other fourth number is present.
+-- The kind of cell, its action or its run, the fact, and 0 for absent; any other fourth number is present.
 unfoldable pub editOf : ℕ → ℕ → ℕ → ℕ → Edit
-editOf kind action fact present = record { cell = cellOf kind action fact; present = not (eqb present setAbsent) }
+editOf kind whose fact present = record { cell = cellOf kind whose fact; present = not (eqb present setAbsent) }

@@ -1,4 +1,5 @@
-// An edit as four numbers: the kind of cell, the action, the fact, and present or absent. (Document 01 has no such format: this is ours.)
+// An edit as four numbers: the kind of cell, its action or its run, the fact, and present or absent. (Document 01 has no such format: this
+// is ours.)
 use change::Cell;
 use change::Edit;
 use table::FACTS;
@@ -19,30 +20,42 @@ pub const GOAL: usize = 4;
 pub const ABSENT: usize = 0;
 
 // A number that is no kind names a fact that no task has.
-fn cell_of(kind: usize, action: usize, fact: usize) -> Cell
-    ensures { λ r. ⌜ r ≡ cellOf kind action fact ⌝ }
+fn cell_of(kind: usize, whose: usize, fact: usize) -> Cell
+    ensures { λ r. ⌜ r ≡ cellOf kind whose fact ⌝ }
 {
     if kind == NEED {
-        Cell::Need { action, fact }
+        Cell::Need {
+            action: whose,
+            fact,
+        }
     } else if kind == ADD {
-        Cell::Add { action, fact }
+        Cell::Add {
+            action: whose,
+            fact,
+        }
     } else if kind == DELETE {
-        Cell::Delete { action, fact }
+        Cell::Delete {
+            action: whose,
+            fact,
+        }
     } else if kind == START {
-        Cell::Start { fact }
+        Cell::Start { run: whose, fact }
     } else if kind == GOAL {
-        Cell::Goal { fact }
+        Cell::Goal { run: whose, fact }
     } else {
-        Cell::Start { fact: FACTS }
+        Cell::Start {
+            run: whose,
+            fact: FACTS,
+        }
     }
 }
 
 // The edit of four numbers, for every caller who gives an edit as numbers. Every number but 0 is present, as C has it of a truth: no
 // caller clears a cell by passing 2.
-pub fn edit_of(kind: usize, action: usize, fact: usize, present: usize) -> Edit
-    ensures { λ r. ⌜ r ≡ editOf kind action fact present ⌝ }
+pub fn edit_of(kind: usize, whose: usize, fact: usize, present: usize) -> Edit
+    ensures { λ r. ⌜ r ≡ editOf kind whose fact present ⌝ }
 {
-    let cell = cell_of(kind, action, fact);
+    let cell = cell_of(kind, whose, fact);
     Edit {
         cell,
         present: present != ABSENT,

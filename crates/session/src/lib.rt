@@ -56,7 +56,7 @@ pub fn edit(t: Task, table: &mut [u16], e: Edit) -> TaskReply
         return refuse_edit(t, refusals::NOT_A_SESSION);
     }
     if !editing::is_inside(t, e) {
-        return refuse_edit(t, refusals::EDIT_OUTSIDE);
+        return refuse_edit(t, refusals::NOT_THERE);
     }
     let task = editing::set_cell(t, e);
     let fact = editing::cell_fact(e);

@@ -1,5 +1,5 @@
--- The fullest list of a fact, all its permitted repairs: with a step in the run it keeps the fact right. (Every need of the fact is dropped,
--- and every action adds it, the last step's too.) So with a step some list works. Assumes nothing.
+-- The fullest list of a fact, all its permitted repairs: in a run with a step it keeps the fact right. (Every need of the fact is dropped,
+-- and every action adds it, the last step's too.) So some list works, where each run without steps has its goals at its start. Assumes nothing.
 use mathlib.Core.Bool.{Bool, true, false, not, _&&_, _||_, false≢true}
 use mathlib.Core.List.{List, [], _++_}
 use mathlib.Core.Path.{_≡_, refl, sym, ap, _∙_, subst}
@@ -13,19 +13,19 @@ use Rattle.table.specs.Order.{isIn}
 use Rattle.table.specs.Repairs.{permits, permitted, chosen, repaired, numberOf, factOf, addEffect, dropNeed}
 use Rattle.table.specs.Sizes.{maxActions, kinds, perFact, perKind}
 use Rattle.table.specs.Strips.{Cells, Course, Courses, Right, stateAt}
-use Rattle.table.proofs.FlagLaws.{and-left, and-right, and-both, or-left, or-right}
+use Rattle.table.proofs.FlagLaws.{and-left, and-right, and-both, or-left, or-right, by-order}
 use Rattle.table.proofs.GatherLaws.{passing, passing-from, passing-has, passing-ascending}
 use Rattle.table.proofs.JoinLaws.{keepsBelow-none, join-keeps, keepsBelow-works}
 use Rattle.table.proofs.RepairNumbers.{inside-permits, permitted-number}
-use Rattle.table.proofs.RunLaws.{stateAt-next}
+use Rattle.table.proofs.RunLaws.{stateAt-first, stateAt-next}
 
--- A run has a step, and its steps are actions of the table.
-pub record Steps (c : Cells) (r : Course) : Type 0 where
-  pub some : 0 < r .count
+-- A run's steps are actions of the table, and if it has none, its goals hold at its start.
+pub record Able (c : Cells) (r : Course) : Type 0 where
   pub below : (i : ℕ) → i < r .count → r .step i < c .actions
+  pub goals : r .count ≡ 0 → (f : ℕ) → r .goal f ≡ true → r .start f ≡ true
 
-abbrev pub StepsIn : Cells → Courses → Type 0
-StepsIn c rs = (i : ℕ) → i < rs .many → Steps c (rs .course i)
+abbrev pub AllAble : Cells → Courses → Type 0
+AllAble c rs = (i : ℕ) → i < rs .many → Able c (rs .course i)
 
 -- ---- the fullest list of fact f
 
@@ -74,37 +74,41 @@ module _ (c : Cells) (actions : c .actions ≤ maxActions) (f : ℕ) (inside : f
           or-right (c .adds a f) (chosen (isIn (full c f)) f addEffect a)
           (full-chosen addEffect a (omega arith) ha (inside-permits c f addEffect a inside ha (ap not e)))
 
-  module _ (r : Course) (some : 0 < r .count) (steps : (i : ℕ) → i < r .count → r .step i < c .actions) where
+  module _ (r : Course) (able : Able c r) where
     full-right : Right (repaired c (isIn (full c f))) r f
     full-right = record {
-      needed = λ i l h. absurd (full-needs (r .step i) (steps i l) h);
-      wanted = λ g. at-end;
+      needed = λ i l h. absurd (full-needs (r .step i) (able .below i l) h);
+      wanted = λ g. by-order 0 (r .count) after-step (λ l. at-start (omega arith) g);
     }
       where
-        at-end : stateAt (repaired c (isIn (full c f))) r (r .count) f ≡ true
-        at-end =
+        after-step : 0 < r .count → stateAt (repaired c (isIn (full c f))) r (r .count) f ≡ true
+        after-step some =
             let d : Cells = repaired c (isIn (full c f)) in
             let i : ℕ = r .count - 1 in
             let e : i + 1 ≡ r .count = omega arith in
             ap (λ (j : ℕ). stateAt d r j f) (sym e) ∙ stateAt-next d r i f ∙
-            or-right (stateAt d r i f && not (d .deletes (r .step i) f)) (d .adds (r .step i) f) (full-adds (r .step i) (steps i (omega arith)))
+            or-right (stateAt d r i f && not (d .deletes (r .step i) f)) (d .adds (r .step i) f) (full-adds (r .step i) (able .below i (omega arith)))
 
-  full-keeps : (rs : Courses) → StepsIn c rs → Keeps c rs f (full c f)
-  full-keeps rs steps = record {
+        at-start : r .count ≡ 0 → r .goal f ≡ true → stateAt (repaired c (isIn (full c f))) r (r .count) f ≡ true
+        at-start e g =
+            let d : Cells = repaired c (isIn (full c f)) in
+            ap (λ (j : ℕ). stateAt d r j f) e ∙ stateAt-first d r f ∙ able .goals e f g
+
+  full-keeps : (rs : Courses) → AllAble c rs → Keeps c rs f (full c f)
+  full-keeps rs able = record {
     permitted = full-permitted;
     own = full-own;
-    right = λ i h. full-right (rs .course i) (steps i h .some) (steps i h .below);
+    right = λ i h. full-right (rs .course i) (able i h);
   }
 
 -- ---- all facts
 
-module _ (c : Cells) (rs : Courses) (actions : c .actions ≤ maxActions) (steps : StepsIn c rs) where
+module _ (c : Cells) (rs : Courses) (actions : c .actions ≤ maxActions) (able : AllAble c rs) where
   full-below : (n : ℕ) → n ≤ c .facts → (l : List ℕ) × KeepsBelow c rs n l
   full-below zero h = ([], keepsBelow-none c rs)
   full-below (suc n) h =
       let p = full-below n (omega arith) in
-      (p .0 ++ full c n, join-keeps c rs n (p .0) (full c n) (p .1) (full-keeps c actions n (omega arith) rs steps))
+      (p .0 ++ full c n, join-keeps c rs n (p .0) (full c n) (p .1) (full-keeps c actions n (omega arith) rs able))
 
-  -- With a step in each run, some list works.
-  pub step-works : Inside c rs → (l : List ℕ) × Works c rs l
-  step-works inside = let p = full-below (c .facts) (omega arith) in (p .0, keepsBelow-works c rs inside (p .0) (p .1))
+  pub able-works : Inside c rs → (l : List ℕ) × Works c rs l
+  able-works inside = let p = full-below (c .facts) (omega arith) in (p .0, keepsBelow-works c rs inside (p .0) (p .1))

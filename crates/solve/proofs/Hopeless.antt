@@ -1,90 +1,92 @@
--- "Refusal 9 occurs here only with no steps and a goal absent at the start": no list works exactly then. Assumes nothing.
+-- "A solve gives 9 exactly when a run without steps lacks a goal at its start": no list works exactly then. Assumes nothing.
 use mathlib.Core.Bool.{Bool, true, false, not, _&&_, false≢true, true≢false}
-use mathlib.Core.List.{List, []}
+use mathlib.Core.List.{List}
 use mathlib.Core.Path.{_≡_, refl, sym, ap, _∙_, subst}
 use Prim.Native.Nat.{ℕ, _<_}
 use native.Mathlib.Omega.{arith}
-use borrow.Author.Tests.{not-true, not-false}
+use lib.Dec.{eqb}
+use borrow.Author.Tests.{not-true, not-false, eqb-true, eq-eqb}
 use Rattle.facts.specs.Sets.{has}
 use Rattle.table.specs.Counting.{someBelow}
 use Rattle.table.specs.Answer.{Verdict, found, over, hopeless, Within}
 use Rattle.table.specs.Order.{isIn}
 use Rattle.table.specs.Refusals.{noListWorks}
 use Rattle.table.specs.Repairs.{repaired}
-use Rattle.table.specs.Strips.{Right, stateAt}
-use Rattle.table.specs.Tasks.{cellsOf, courseOf, coursesOf, WorksFor, WellFormed}
+use Rattle.table.specs.Strips.{stateAt}
+use Rattle.table.specs.Tasks.{cellsOf, startOf, goalOf, countOf, courseOf, coursesOf, WorksFor, WellFormed}
 use Rattle.table.specs.declared.Task.{Task}
 use Rattle.table.proofs.AnswerLaws.{within-unique}
 use Rattle.table.proofs.CountingLaws.{some-passes, none-passes}
 use Rattle.table.proofs.FlagLaws.{by-order, both}
 use Rattle.table.proofs.Formation.{well-formed}
-use Rattle.table.proofs.JoinLaws.{formed-inside, permitted-none}
-use Rattle.table.proofs.RunLaws.{right-valid, stateAt-first}
+use Rattle.table.proofs.JoinLaws.{formed-inside}
+use Rattle.table.proofs.RunLaws.{stateAt-first}
 use Rattle.solve.specs.Solving.{told, Solves}
 use Rattle.table.specs.Outcomes.{Outcome, refused}
 use Rattle.table.proofs.OutcomeLaws.{given-cases}
 use Rattle.solve.specs.Stuck.{Stuck}
-use Rattle.solve.proofs.FullLists.{step-works}
+use Rattle.solve.proofs.FullLists.{Able, AllAble, able-works}
 
 module _ (t : Task) where
-  -- a goal that is absent at the start
-  missing : ℕ → Bool
-  missing f = has (t .run .goal) f && not (has (t .run .start) f)
+  -- a goal of a run that is absent at its start; and a run without steps that has such a goal
+  missing : ℕ → ℕ → Bool
+  missing i f = has (goalOf (t .runs) i) f && not (has (startOf (t .runs) i) f)
 
-  -- Without steps the state at the end is the start, whatever is repaired.
-  end-start : t .run .count ≡ 0 → (R : ℕ → Bool) (f : ℕ)
-      → stateAt (repaired (cellsOf (t .table)) R) (courseOf (t .run)) (t .run .count) f ≡ has (t .run .start) f
-  unfolding courseOf
-  end-start e R f =
-      ap (λ (i : ℕ). stateAt (repaired (cellsOf (t .table)) R) (courseOf (t .run)) i f) e ∙
-      stateAt-first (repaired (cellsOf (t .table)) R) (courseOf (t .run)) f
+  stuckIn : ℕ → Bool
+  stuckIn i = eqb (countOf (t .runs) i) 0 && someBelow (missing i) (t .table .facts)
 
-  -- No steps, and no goal absent: nothing is to be repaired.
-  nothing-works : WellFormed t → t .run .count ≡ 0 → ((f : ℕ) → f < t .table .facts → missing f ≡ false) → WorksFor t []
-  unfolding courseOf missing
-  nothing-works w e none = record {
-    permitted = permitted-none (cellsOf (t .table)) (coursesOf t);
-    valid = λ i h. right-valid (repaired (cellsOf (t .table)) (isIn [])) (courseOf (t .run)) right;
+  -- A run that is not stuck: without steps no goal of it is absent.
+  not-stuck : WellFormed t → (i : ℕ) → stuckIn i ≡ false → Able (cellsOf (t .table)) (courseOf (t .runs) i)
+  unfolding cellsOf courseOf stuckIn missing
+  not-stuck w i h = record {
+    below = w .steps-below i;
+    goals = λ e f g.
+        present (has (goalOf (t .runs) i) f) (has (startOf (t .runs) i) f) g
+        (none-passes (missing i) (t .table .facts) (rw (eq-eqb (countOf (t .runs) i) 0 e) at h) f (goal-in f g));
   }
     where
       present : (a b : Bool) → a ≡ true → (a && not b) ≡ false → b ≡ true
       present true b p q = not-false b q
       present false b p q = absurd (false≢true p)
 
-      goal-in : (f : ℕ) → has (t .run .goal) f ≡ true → f < t .table .facts
-      goal-in f g = by-order f (t .table .facts) (λ l. l) (λ l. absurd (true≢false (sym g ∙ w .goal-inside f l)))
-
-      right : (f : ℕ) → Right (repaired (cellsOf (t .table)) (isIn [])) (courseOf (t .run)) f
-      right f = record {
-        needed = λ i l h. absurd (omega arith);
-        wanted = λ g. end-start e (isIn []) f ∙ present (has (t .run .goal) f) (has (t .run .start) f) g (none f (goal-in f g));
-      }
+      goal-in : (f : ℕ) → has (goalOf (t .runs) i) f ≡ true → f < t .table .facts
+      goal-in f g = by-order f (t .table .facts) (λ l. l) (λ l. absurd (true≢false (sym g ∙ w .goal-inside i f l)))
 
   -- ---- the theorem, both ways
 
   pub hopeless-stuck : WellFormed t → (limit : ℕ) → Within (WorksFor t) limit hopeless → Stuck t
-  unfolding cellsOf courseOf missing
-  hopeless-stuck w limit none = by-order 0 (t .run .count) (λ l. absurd (with-step l)) (λ l. without (omega arith))
+  unfolding cellsOf stuckIn missing
+  hopeless-stuck w limit none = pick (someBelow stuckIn (t .runs .many)) refl
     where
-      with-step : 0 < t .run .count → ⊥
-      with-step l =
-          let p = step-works (cellsOf (t .table)) (coursesOf t) (w .actions-high) (λ i h. record { some = l; below = w .steps-below }) (formed-inside t w) in
-          none (p .0) (p .1)
+      pick : (b : Bool) → someBelow stuckIn (t .runs .many) ≡ b → Stuck t
+      pick true h =
+          let p = some-passes stuckIn (t .runs .many) h in
+          let i = p .0 in
+          let q = both (eqb (countOf (t .runs) i) 0) (someBelow (missing i) (t .table .facts)) (p .2) in
+          let f = some-passes (missing i) (t .table .facts) (q .1) in
+          let r = both (has (goalOf (t .runs) i) (f .0)) (not (has (startOf (t .runs) i) (f .0))) (f .2) in
+          record {
+            run = i;
+            there = p .1;
+            steps = eqb-true (countOf (t .runs) i) 0 (q .0);
+            fact = f .0;
+            goal = r .0;
+            absent = not-true (has (startOf (t .runs) i) (f .0)) (r .1);
+          }
+      pick false h =
+          let able : AllAble (cellsOf (t .table)) (coursesOf t) = λ i low. not-stuck w i (none-passes stuckIn (t .runs .many) h i low) in
+          let p = able-works (cellsOf (t .table)) (coursesOf t) (w .actions-high) able (formed-inside t w) in
+          absurd (none (p .0) (p .1))
 
-      without : t .run .count ≡ 0 → Stuck t
-      without e = pick (someBelow missing (t .table .facts)) refl
-        where
-          pick : (b : Bool) → someBelow missing (t .table .facts) ≡ b → Stuck t
-          pick true h =
-              let p = some-passes missing (t .table .facts) h in
-              let q = both (has (t .run .goal) (p .0)) (not (has (t .run .start) (p .0))) (p .2) in
-              record { steps = e; fact = p .0; goal = q .0; absent = not-true (has (t .run .start) (p .0)) (q .1) }
-          pick false h = absurd (none [] (nothing-works w e (none-passes missing (t .table .facts) h)))
-
+  -- Without steps the state at the end is the start, whatever is repaired.
   pub stuck-hopeless : (limit : ℕ) → Stuck t → Within (WorksFor t) limit hopeless
   unfolding courseOf
   stuck-hopeless limit s l w =
-      true≢false (sym (w .valid 0 (omega arith) .reaches (s .fact) (s .goal)) ∙ end-start (s .steps) (isIn l) (s .fact) ∙ s .absent)
+      let c = repaired (cellsOf (t .table)) (isIn l) in
+      let r = courseOf (t .runs) (s .run) in
+      let end-start : stateAt c r (r .count) (s .fact) ≡ has (startOf (t .runs) (s .run)) (s .fact) =
+      ap (λ (i : ℕ). stateAt c r i (s .fact)) (s .steps) ∙ stateAt-first c r (s .fact) in
+      true≢false (sym (w .valid (s .run) (s .there) .reaches (s .fact) (s .goal)) ∙ end-start ∙ s .absent)
 
 -- ---- the same of the refusal
 
@@ -97,7 +99,7 @@ told-nine over room h = absurd (omega arith)
 told-nine hopeless room h = refl
 
 module _ (t : Task) (w : WellFormed t) (room : List ℕ) (o : Outcome) (s : Solves t room o) where
-  -- "Refusal 9 occurs here only with no steps and a goal absent at the start."
+  -- "A solve gives 9 exactly when a run without steps lacks a goal at its start."
   pub nine-stuck : o .reply .number ≡ noListWorks → Stuck t
   nine-stuck h =
       let x = s .verdict (well-formed t w) in

@@ -15,7 +15,7 @@ use Rattle.facts.specs.Sets.{width, has, count, lowest, sumBits}
 use Rattle.facts.proofs.Counting.{bit-has, count-sum, lowest-has, lowest-first}
 use Rattle.facts.proofs.Laws.{has-above, within-below, lt-within}
 use Rattle.table.specs.Counting.{everyBelow, everyFrom, someBelow, sumBelow, countBelow, firstWhere}
-use Rattle.table.proofs.FlagLaws.{or-cases, or-left, or-neither, both, and-both, and-swap, cond-by, by-order}
+use Rattle.table.proofs.FlagLaws.{or-cases, or-left, or-right, or-other, or-neither, both, and-both, and-swap, cond-by, by-order, same-flag}
 
 -- ---- one number more
 
@@ -234,6 +234,43 @@ everyFrom-both p q r from (suc n) same =
     let here : ((ltb n 0 || p n) && (ltb n from || q n)) ≡ r n = rw (le-ltb n 0 zero-le) (same n) in
     and-swap (everyBelow (λ i. ltb i 0 || p i) n) (ltb n 0 || p n) (everyBelow (λ i. ltb i from || q i) n) (ltb n from || q n) ∙
     (λ j. everyFrom-both p q r from n same j && here j)
+
+everyFrom-all : (p : ℕ → Bool) (from n : ℕ) → everyFrom p from n ≡ true → (i : ℕ) → from ≤ i → i < n → p i ≡ true
+unfolding everyFrom
+everyFrom-all p from n h i low l = or-other (everyBelow-all (λ i. ltb i from || p i) n h i l) (le-ltb i from low)
+
+all-everyFrom : (p : ℕ → Bool) (from n : ℕ) → ((i : ℕ) → from ≤ i → i < n → p i ≡ true) → everyFrom p from n ≡ true
+unfolding everyFrom
+all-everyFrom p from n h =
+    all-everyBelow (λ i. ltb i from || p i) n
+    (λ i l. by-order i from (λ k. or-left (ltb i from) (p i) (lt-ltb i from k)) (λ k. or-right (ltb i from) (p i) (h i k l)))
+
+pub everyFrom-same : (p q : ℕ → Bool) (from n : ℕ) → ((i : ℕ) → from ≤ i → i < n → p i ≡ q i) → everyFrom p from n ≡ everyFrom q from n
+everyFrom-same p q from n same =
+    same-flag (everyFrom p from n) (everyFrom q from n)
+    (λ h. all-everyFrom q from n (λ i low l. sym (same i low l) ∙ everyFrom-all p from n h i low l))
+    (λ h. all-everyFrom p from n (λ i low l. same i low l ∙ everyFrom-all q from n h i low l))
+
+-- two parts that follow one another, and the numbers from a place on with those before it
+pub everyFrom-parts : (p : ℕ → Bool) (from k n : ℕ) → from ≤ k → k ≤ n → (everyFrom p from k && everyFrom p k n) ≡ everyFrom p from n
+everyFrom-parts p from k n l m =
+    same-flag (everyFrom p from k && everyFrom p k n) (everyFrom p from n)
+    (λ h.
+    let parts = both (everyFrom p from k) (everyFrom p k n) h in
+    all-everyFrom p from n (λ i low less.
+    by-order i k (λ before. everyFrom-all p from k (parts .0) i low before) (λ after. everyFrom-all p k n (parts .1) i after less)))
+    (λ h. and-both _ _ (all-everyFrom p from k (λ i low less. everyFrom-all p from n h i low (omega arith)))
+    (all-everyFrom p k n (λ i low less. everyFrom-all p from n h i (omega arith) less)))
+
+pub everyBelow-parts : (p : ℕ → Bool) (k n : ℕ) → k ≤ n → (everyBelow p k && everyFrom p k n) ≡ everyBelow p n
+everyBelow-parts p k n l =
+    same-flag (everyBelow p k && everyFrom p k n) (everyBelow p n)
+    (λ h.
+    let parts = both (everyBelow p k) (everyFrom p k n) h in
+    all-everyBelow p n (λ i less.
+    by-order i k (λ before. everyBelow-all p k (parts .0) i before) (λ after. everyFrom-all p k n (parts .1) i after less)))
+    (λ h. and-both _ _ (all-everyBelow p k (λ i less. everyBelow-all p n h i (omega arith)))
+    (all-everyFrom p k n (λ i low less. everyBelow-all p n h i less)))
 
 -- ---- tests that some number below n passes, or none
 

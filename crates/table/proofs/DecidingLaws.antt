@@ -1,17 +1,19 @@
 -- What the computing tests of specs/Deciding say. Assumes nothing.
 use mathlib.Core.Bool.{Bool, true, false, not, _&&_, _||_, true≢false}
-use mathlib.Core.Path.{_≡_, refl, sym}
-use Prim.Native.Nat.{ℕ}
+use mathlib.Core.List.{List, [], _∷_}
+use mathlib.Core.Path.{_≡_, refl, sym, subst}
+use Prim.Native.Nat.{ℕ, zero, suc, _+_, _<_}
+use native.Mathlib.Omega.{arith}
 use borrow.Author.Tests.{eqb-true}
 use lib.Dec.{eqb}
-use lib.ListN.{length}
+use lib.ListN.{length, getD}
 use Rattle.table.proofs.FlagLaws.{both, and-both}
 use Rattle.table.proofs.CountingLaws.{everyBelow-all, all-everyBelow}
 use Rattle.table.specs.Counting.{everyBelow}
-use Rattle.table.specs.Deciding.{isRight, isAllRight, isShaped}
-use Rattle.table.specs.Sizes.{maxActions}
+use Rattle.table.specs.Deciding.{isRight, isAllRight, isShaped, everyPlace, isFormed}
+use Rattle.table.specs.Sizes.{maxActions, allSteps}
 use Rattle.table.specs.Strips.{Cells, Course, Courses, stateAt, Right, AllRight}
-use Rattle.table.specs.Tasks.{Shaped}
+use Rattle.table.specs.Tasks.{stepFits, stepFormed, formed, Shaped}
 use Rattle.table.specs.declared.Task.{Task}
 
 -- `not a || b` says that a gives b.
@@ -41,10 +43,44 @@ pub all-right-is : (c : Cells) (rs : Courses) (f : ℕ) → AllRight c rs f → 
 unfolding isAllRight
 all-right-is c rs f h = all-everyBelow (λ i. isRight c (rs .course i) f) (rs .many) (λ i low. right-is c (rs .course i) f (h i low))
 
-pub is-shaped : (t : Task) → isShaped t ≡ true → Shaped t
+is-shaped : (t : Task) → isShaped t ≡ true → Shaped t
 unfolding isShaped
 is-shaped t h =
-    let p = both (eqb (length (t .table .needs)) maxActions && eqb (length (t .table .adds)) maxActions) _ h in
+    let p = both (eqb (length (t .table .needs)) maxActions && eqb (length (t .table .adds)) maxActions && eqb (length (t .table .deletes)) maxActions) _ h in
     let q = both _ _ (p .0) in
-    let r = both _ _ (p .1) in
-    record { needs = eqb-true _ _ (q .0); adds = eqb-true _ _ (q .1); deletes = eqb-true _ _ (r .0); steps = eqb-true _ _ (r .1) }
+    let r = both _ _ (q .0) in
+    let u = both _ _ (p .1) in
+    let v = both _ _ (u .0) in
+    let w = both _ _ (v .0) in
+    record {
+      needs = eqb-true _ _ (r .0);
+      adds = eqb-true _ _ (r .1);
+      deletes = eqb-true _ _ (q .1);
+      starts = eqb-true _ _ (w .0);
+      goals = eqb-true _ _ (w .1);
+      counts = eqb-true _ _ (v .1);
+      steps = eqb-true _ _ (u .1);
+    }
+
+every-place : (test : ℕ → ℕ → Bool) (l : List ℕ) (p : ℕ) → everyPlace test l p ≡ true → (i : ℕ) → i < length l → test (p + i) (getD l i 0) ≡ true
+unfolding everyPlace
+every-place test [] p h i low = absurd (omega arith)
+every-place test (a ∷ l) p h zero low =
+    let e : p ≡ p + 0 = omega arith in
+    subst (λ (k : ℕ). test k a ≡ true) e (both (test p a) (everyPlace test l (suc p)) h .0)
+every-place test (a ∷ l) p h (suc i) low =
+    let e : suc p + i ≡ p + suc i = omega arith in
+    subst (λ (k : ℕ). test k (getD l i 0) ≡ true) e (every-place test l (suc p) (both (test p a) (everyPlace test l (suc p)) h .1) i (omega arith))
+
+pub is-formed : (t : Task) → isFormed t ≡ true → Shaped t × (formed t ≡ true)
+unfolding isFormed formed stepFormed
+is-formed t h =
+    let p = both _ _ h in
+    let q = both _ _ (p .0) in
+    let s = is-shaped t (q .0) in (
+      s,
+      and-both _ _ (q .1) (all-everyBelow (stepFormed t) allSteps (λ i low.
+          let e : 0 + i ≡ i = omega arith in
+          subst (λ (k : ℕ). stepFits t k (getD (t .runs .steps) i 0) ≡ true) e
+          (every-place (stepFits t) (t .runs .steps) 0 (p .1) i (omega (arith, s .steps))))),
+    )

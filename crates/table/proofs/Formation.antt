@@ -1,8 +1,8 @@
 -- When a task is well formed: the test of specs/Tasks and its record of named parts say the same, and what the proofs read off the record.
 -- Assumes nothing.
 use mathlib.Core.Bool.{Bool, true, false, not, _&&_, _||_, cond}
-use mathlib.Core.Path.{_≡_, sym, _∙_}
-use Prim.Native.Nat.{ℕ, _<_, _≤_}
+use mathlib.Core.Path.{_≡_, sym, ap, _∙_}
+use Prim.Native.Nat.{ℕ, _+_, _*_, _/_, _%_, _<_, _≤_}
 use native.Mathlib.Omega.{arith}
 use lib.Dec.{eqb, leb, ltb}
 use lib.ListN.{getD, List·getD-eq-default}
@@ -10,9 +10,9 @@ use borrow.Author.Tests.{ltb-true, leb-true, eqb-true, lt-ltb, le-ltb, le-leb, e
 use Rattle.facts.specs.Sets.{has, within}
 use Rattle.facts.proofs.Laws.{has-empty, within-has, has-within}
 use Rattle.table.specs.Counting.{everyBelow}
-use Rattle.table.specs.Sizes.{maxFacts, maxActions, maxSteps, maxLimit}
+use Rattle.table.specs.Sizes.{maxFacts, maxActions, maxRuns, maxSteps, allSteps, maxLimit}
 use Rattle.table.specs.Repairs.{byKind, dropDelete, addEffect, dropNeed}
-use Rattle.table.specs.Tasks.{maskOf, sizesFormed, maskFormed, actionFormed, stepFormed, formed, Shaped, WellFormed}
+use Rattle.table.specs.Tasks.{maskOf, startOf, goalOf, countOf, stepOf, sizesFormed, maskFormed, actionFormed, runFits, runFormed, stepFits, stepFormed, formed, Shaped, WellFormed}
 use Rattle.table.specs.declared.Table.{Table}
 use Rattle.table.specs.declared.Task.{Task}
 use Rattle.table.proofs.CountingLaws.{everyBelow-all, all-everyBelow}
@@ -74,68 +74,123 @@ pub sizes-in : (t : Task)
     × (0 < t .table .actions)
     × (t .table .actions ≤ maxActions)
     × (t .table .limit ≤ maxLimit)
-    × (t .run .count ≤ maxSteps)
+    × (0 < t .runs .many)
+    × (t .runs .many ≤ maxRuns)
 unfolding sizesFormed
 sizes-in t h =
     let F = t .table .facts in
     let A = t .table .actions in
     let L = t .table .limit in
-    let n = t .run .count in
-    let p = both (ltb 0 F && leb F maxFacts && (ltb 0 A && leb A maxActions)) (leb L maxLimit && leb n maxSteps) h in
+    let n = t .runs .many in
+    let p = both (ltb 0 F && leb F maxFacts && (ltb 0 A && leb A maxActions)) (leb L maxLimit && (ltb 0 n && leb n maxRuns)) h in
     let q = both (ltb 0 F && leb F maxFacts) (ltb 0 A && leb A maxActions) (p .0) in
     let f = both (ltb 0 F) (leb F maxFacts) (q .0) in
     let a = both (ltb 0 A) (leb A maxActions) (q .1) in
-    let r = both (leb L maxLimit) (leb n maxSteps) (p .1) in (
+    let r = both (leb L maxLimit) (ltb 0 n && leb n maxRuns) (p .1) in
+    let m = both (ltb 0 n) (leb n maxRuns) (r .1) in (
       ltb-true 0 F (f .0),
       leb-true F maxFacts (f .1),
       ltb-true 0 A (a .0),
       leb-true A maxActions (a .1),
       leb-true L maxLimit (r .0),
-      leb-true n maxSteps (r .1),
+      ltb-true 0 n (m .0),
+      leb-true n maxRuns (m .1),
     )
 
--- the same of step i: "steps are below A", "everything for unused .. steps is zero"
-StepIn : Task → ℕ → Type 0
-StepIn t i = (getD (t .run .steps) i 0 < t .table .actions) × (t .run .count ≤ i → getD (t .run .steps) i 0 ≡ 0)
+-- the same of run i: "no set has a fact at or above F", at most 64 steps, "Everything for unused runs is zero"
+RunIn : Task → ℕ → Type 0
+RunIn t i =
+    ((f : ℕ) → t .table .facts ≤ f → has (startOf (t .runs) i) f ≡ false)
+    × ((f : ℕ) → t .table .facts ≤ f → has (goalOf (t .runs) i) f ≡ false)
+    × (countOf (t .runs) i ≤ maxSteps)
+    × (t .runs .many ≤ i → (startOf (t .runs) i ≡ 0) × (goalOf (t .runs) i ≡ 0) × (countOf (t .runs) i ≡ 0))
 
-step-in : (t : Task) (i : ℕ) → stepFormed t i ≡ true → StepIn t i
-unfolding stepFormed StepIn
-step-in t i h =
-    let a = getD (t .run .steps) i 0 in
-    let p = both (ltb a (t .table .actions)) (ltb i (t .run .count) || eqb a 0) h in
-    (ltb-true a (t .table .actions) (p .0), λ l. eqb-true a 0 (or-other (p .1) (le-ltb i (t .run .count) l)))
+run-in : (t : Task) (i : ℕ) → runFormed t i ≡ true → RunIn t i
+unfolding runFormed runFits RunIn
+run-in t i h =
+    let F = t .table .facts in
+    let start = startOf (t .runs) i in
+    let goal = goalOf (t .runs) i in
+    let count = countOf (t .runs) i in
+    let p = both (within start F && within goal F && leb count maxSteps) (ltb i (t .runs .many) || (eqb start 0 && eqb goal 0 && eqb count 0)) h in
+    let q = both (within start F && within goal F) (leb count maxSteps) (p .0) in
+    let s = both (within start F) (within goal F) (q .0) in (
+      λ f. within-has start F f (s .0),
+      λ f. within-has goal F f (s .1),
+      leb-true count maxSteps (q .1),
+      λ l.
+          let z = both (eqb start 0 && eqb goal 0) (eqb count 0) (or-other (p .1) (le-ltb i (t .runs .many) l)) in
+          let y = both (eqb start 0) (eqb goal 0) (z .0) in
+          (eqb-true start 0 (y .0), eqb-true goal 0 (y .1), eqb-true count 0 (z .1)),
+    )
 
-steps-in : (t : Task) → Shaped t → 0 < t .table .actions → everyBelow (stepFormed t) maxSteps ≡ true → (i : ℕ) → StepIn t i
+-- what the test says of the runs' numbers of steps
+pub counts-high : (t : Task) → everyBelow (runFormed t) maxRuns ≡ true → (i : ℕ) → i < maxRuns → countOf (t .runs) i ≤ maxSteps
+unfolding RunIn
+counts-high t h i l = run-in t i (everyBelow-all (runFormed t) maxRuns h i l) .2
+
+pub counts-none : (t : Task) → everyBelow (runFormed t) maxRuns ≡ true → (i : ℕ) → t .runs .many ≤ i → i < maxRuns → countOf (t .runs) i ≡ 0
+unfolding RunIn
+counts-none t h i past l = run-in t i (everyBelow-all (runFormed t) maxRuns h i l) .3 past .2
+
+-- past the declared length of the arrays there is no run
+runs-in : (t : Task) → Shaped t → everyBelow (runFormed t) maxRuns ≡ true → (i : ℕ) → RunIn t i
+unfolding RunIn
+runs-in t s h i =
+    by-order i maxRuns (λ l. run-in t i (everyBelow-all (runFormed t) maxRuns h i l)) (λ l.
+    let start : startOf (t .runs) i ≡ 0 = List·getD-eq-default (t .runs .starts) 0 (omega (arith, s .starts)) in
+    let goal : goalOf (t .runs) i ≡ 0 = List·getD-eq-default (t .runs .goals) 0 (omega (arith, s .goals)) in
+    let count : countOf (t .runs) i ≡ 0 = List·getD-eq-default (t .runs .counts) 0 (omega (arith, s .counts)) in
+    (λ f k. rw start (has-empty f), λ f k. rw goal (has-empty f), omega arith, λ k. (start, goal, count)))
+
+-- the same of step j of run i: "steps are below A", "everything for unused .. steps is zero"
+StepIn : Task → ℕ → ℕ → Type 0
+StepIn t i j =
+    (j < countOf (t .runs) i → stepOf (t .runs) i j < t .table .actions) × (countOf (t .runs) i ≤ j → stepOf (t .runs) i j ≡ 0)
+
+step-in : (t : Task) (i j : ℕ) → j < maxSteps → stepFormed t (maxSteps * i + j) ≡ true → StepIn t i j
+unfolding stepFormed stepFits StepIn
+step-in t i j small h =
+    let run : (maxSteps * i + j) / maxSteps ≡ i = omega arith in
+    let step : (maxSteps * i + j) % maxSteps ≡ j = omega arith in
+    let told = rw (run, step) at h in (
+      λ l. ltb-true (stepOf (t .runs) i j) (t .table .actions) (rw (lt-ltb j (countOf (t .runs) i) l) at told),
+      λ l. eqb-true (stepOf (t .runs) i j) 0 (rw (le-ltb j (countOf (t .runs) i) l) at told),
+    )
+
+steps-in : (t : Task) → Shaped t → everyBelow (stepFormed t) allSteps ≡ true → (i j : ℕ) → j < maxSteps → StepIn t i j
 unfolding StepIn
-steps-in t s low h i =
-    by-order i maxSteps (λ l. step-in t i (everyBelow-all (stepFormed t) maxSteps h i l)) (λ l.
-    let e : getD (t .run .steps) i 0 ≡ 0 = List·getD-eq-default (t .run .steps) 0 (omega (arith, s .steps)) in
-    (omega arith, λ m. e))
+steps-in t s h i j small =
+    by-order i maxRuns
+    (λ l. step-in t i j small (everyBelow-all (stepFormed t) allSteps h (maxSteps * i + j) (omega arith)))
+    (λ l.
+    let e : stepOf (t .runs) i j ≡ 0 = List·getD-eq-default (t .runs .steps) 0 (omega (arith, s .steps)) in
+    let past : countOf (t .runs) i ≡ 0 = List·getD-eq-default (t .runs .counts) 0 (omega (arith, s .counts)) in
+    (λ k. absurd (omega arith), λ k. e))
 
--- the four parts of the test, from its end to its start
+-- the four parts of the test
 parts : (t : Task)
     → formed t ≡ true
     → (sizesFormed t ≡ true)
+    × (everyBelow (runFormed t) maxRuns ≡ true)
     × (everyBelow (actionFormed (t .table)) maxActions ≡ true)
-    × (within (t .run .start) (t .table .facts) ≡ true)
-    × (within (t .run .goal) (t .table .facts) ≡ true)
-    × (everyBelow (stepFormed t) maxSteps ≡ true)
+    × (everyBelow (stepFormed t) allSteps ≡ true)
 unfolding formed
 parts t h =
+    let runs = everyBelow (runFormed t) maxRuns in
     let actions = everyBelow (actionFormed (t .table)) maxActions in
-    let start = within (t .run .start) (t .table .facts) in
-    let goal = within (t .run .goal) (t .table .facts) in
-    let p = both (sizesFormed t && actions && (start && goal)) (everyBelow (stepFormed t) maxSteps) h in
-    let q = both (sizesFormed t && actions) (start && goal) (p .0) in
-    let r = both (sizesFormed t) actions (q .0) in
-    let sets = both start goal (q .1) in
-    (r .0, r .1, sets .0, sets .1, p .1)
+    let p = both (sizesFormed t && runs && actions) (everyBelow (stepFormed t) allSteps) h in
+    let q = both (sizesFormed t && runs) actions (p .0) in
+    let r = both (sizesFormed t) runs (q .0) in
+    (r .0, r .1, q .1, p .1)
 
 pub formed-well : (t : Task) → Shaped t → formed t ≡ true → WellFormed t
-unfolding MaskIn StepIn
+unfolding MaskIn RunIn StepIn
 formed-well t s h =
     let p = parts t h in
     let sizes = sizes-in t (p .0) in
+    let run = runs-in t s (p .1) in
+    let step = steps-in t s (p .3) in
     record {
       shaped = s;
       facts-low = sizes .0;
@@ -143,50 +198,76 @@ formed-well t s h =
       actions-low = sizes .2;
       actions-high = sizes .3;
       limit-high = sizes .4;
-      count-high = sizes .5;
-      inside = λ k a. masks-in t s (p .1) k a .0;
-      start-inside = λ f. within-has (t .run .start) (t .table .facts) f (p .2);
-      goal-inside = λ f. within-has (t .run .goal) (t .table .facts) f (p .3);
-      steps-below = λ i l. steps-in t s (sizes .2) (p .4) i .0;
-      actions-unused = λ k a. masks-in t s (p .1) k a .1;
-      steps-unused = λ i. steps-in t s (sizes .2) (p .4) i .1;
+      many-low = sizes .5;
+      many-high = sizes .6;
+      count-high = λ i. run i .2;
+      inside = λ k a. masks-in t s (p .2) k a .0;
+      start-inside = λ i. run i .0;
+      goal-inside = λ i. run i .1;
+      steps-below = λ i j l. step i j (omega (arith, run i .2)) .0 l;
+      actions-unused = λ k a. masks-in t s (p .2) k a .1;
+      start-unused = λ i l. run i .3 l .0;
+      goal-unused = λ i l. run i .3 l .1;
+      count-unused = λ i l. run i .3 l .2;
+      steps-unused = λ i j l small. step i j small .1 l;
     }
 
 -- ---- what the proofs read off the record
 
 -- every step, used or not, is an action of the task
-pub step-below : (t : Task) → WellFormed t → (i : ℕ) → getD (t .run .steps) i 0 < t .table .actions
-step-below t w i =
-    by-order i (t .run .count) (w .steps-below i) (λ l.
-    let e : getD (t .run .steps) i 0 ≡ 0 = w .steps-unused i l in
+pub step-below : (t : Task) → WellFormed t → (i j : ℕ) → j < maxSteps → stepOf (t .runs) i j < t .table .actions
+step-below t w i j small =
+    by-order j (countOf (t .runs) i) (w .steps-below i j) (λ l.
+    let e : stepOf (t .runs) i j ≡ 0 = w .steps-unused i j l small in
     omega (arith, w .actions-low))
 
-pub step-lt : (t : Task) → WellFormed t → (i : ℕ) → getD (t .run .steps) i 0 < maxActions
-step-lt t w i = omega (arith, step-below t w i, w .actions-high)
+pub step-lt : (t : Task) → WellFormed t → (i j : ℕ) → j < maxSteps → stepOf (t .runs) i j < maxActions
+step-lt t w i j small = omega (arith, step-below t w i j small, w .actions-high)
 
 -- ---- the named parts give the test
 
 unused-or : (a n m : ℕ) → (n ≤ a → m ≡ 0) → (ltb a n || eqb m 0) ≡ true
 unused-or a n m h = by-order a n (λ l. rw (lt-ltb a n l)) (λ l. or-right (ltb a n) _ (eq-eqb m 0 (h l)))
 
+run-formed : (t : Task) → WellFormed t → (i : ℕ) → runFormed t i ≡ true
+unfolding runFormed runFits
+run-formed t w i =
+    and-both _ _
+    (and-both _ _
+    (and-both _ _ (has-within (startOf (t .runs) i) (t .table .facts) (w .start-inside i)) (has-within (goalOf (t .runs) i) (t .table .facts) (w .goal-inside i)))
+    (le-leb (countOf (t .runs) i) maxSteps (w .count-high i)))
+    (by-order i (t .runs .many) (λ l. rw (lt-ltb i (t .runs .many) l)) (λ l.
+    or-right (ltb i (t .runs .many)) _
+    (and-both _ _ (and-both _ _ (eq-eqb (startOf (t .runs) i) 0 (w .start-unused i l)) (eq-eqb (goalOf (t .runs) i) 0 (w .goal-unused i l)))
+    (eq-eqb (countOf (t .runs) i) 0 (w .count-unused i l)))))
+
+step-formed : (t : Task) → WellFormed t → (p : ℕ) → stepFormed t p ≡ true
+unfolding stepFormed stepFits
+step-formed t w p =
+    let i = p / maxSteps in
+    let j = p % maxSteps in
+    let place : maxSteps * i + j ≡ p = omega arith in
+    let at : stepOf (t .runs) i j ≡ getD (t .runs .steps) p 0 = ap (λ (q : ℕ). getD (t .runs .steps) q 0) place in
+    by-order j (countOf (t .runs) i)
+    (λ l. rw (lt-ltb j (countOf (t .runs) i) l) (rw at at (lt-ltb (stepOf (t .runs) i j) (t .table .actions) (w .steps-below i j l))))
+    (λ l. rw (le-ltb j (countOf (t .runs) i) l) (eq-eqb (getD (t .runs .steps) p 0) 0 (sym at ∙ w .steps-unused i j l (omega arith))))
+
 pub well-formed : (t : Task) → WellFormed t → formed t ≡ true
-unfolding formed sizesFormed actionFormed maskFormed stepFormed
+unfolding formed sizesFormed actionFormed maskFormed
 well-formed t w =
     let F = t .table .facts in
     let A = t .table .actions in
     let mask : (k a : ℕ) → maskFormed (t .table) a (maskOf (t .table) k a) ≡ true =
     λ k a. and-both _ _ (has-within (maskOf (t .table) k a) F (w .inside k a)) (unused-or a A (maskOf (t .table) k a) (w .actions-unused k a)) in
-    let step : (i : ℕ) → stepFormed t i ≡ true =
-    λ i. and-both _ _ (lt-ltb (getD (t .run .steps) i 0) A (step-below t w i)) (unused-or i (t .run .count) (getD (t .run .steps) i 0) (w .steps-unused i)) in
     and-both _ _
     (and-both _ _
     (and-both _ _
     (and-both _ _
     (and-both _ _ (and-both _ _ (lt-ltb 0 F (w .facts-low)) (le-leb F maxFacts (w .facts-high))) (and-both _ _ (lt-ltb 0 A (w .actions-low)) (le-leb A maxActions (w .actions-high))))
-    (and-both _ _ (le-leb (t .table .limit) maxLimit (w .limit-high)) (le-leb (t .run .count) maxSteps (w .count-high))))
+    (and-both _ _ (le-leb (t .table .limit) maxLimit (w .limit-high)) (and-both _ _ (lt-ltb 0 (t .runs .many) (w .many-low)) (le-leb (t .runs .many) maxRuns (w .many-high)))))
+    (all-everyBelow (runFormed t) maxRuns (λ i l. run-formed t w i)))
     (all-everyBelow (actionFormed (t .table)) maxActions (λ a l. and-both _ _ (and-both _ _ (mask dropNeed a) (mask addEffect a)) (mask dropDelete a))))
-    (and-both _ _ (has-within (t .run .start) F (w .start-inside)) (has-within (t .run .goal) F (w .goal-inside))))
-    (all-everyBelow (stepFormed t) maxSteps (λ i l. step i))
+    (all-everyBelow (stepFormed t) allSteps (λ p l. step-formed t w p))
 
 -- ---- what a caller knows after `if !is_formed(t) { return .. }`: past it, and in it
 

@@ -53,7 +53,7 @@ gather-length p (suc n) c short =
     let here = short n (omega arith) in
     rw (length-append (gather p n) (p n), suc-mul n c) (omega arith)
 
--- One piece more; no piece, one piece, eight pieces.
+-- One piece more; no piece, one piece, nine pieces.
 pub gather-next : (p : ℕ → List ℕ) (n : ℕ) → gather p (suc n) ≡ gather p n ++ p n
 unfolding gather
 gather-next p n = refl
@@ -66,9 +66,9 @@ pub gather-one : (p : ℕ → List ℕ) → gather p 1 ≡ p 0
 unfolding gather
 gather-one p = refl
 
-pub gather-eight : (p : ℕ → List ℕ) → gather p 8 ≡ p 0 ++ p 1 ++ p 2 ++ p 3 ++ p 4 ++ p 5 ++ p 6 ++ p 7
+pub gather-nine : (p : ℕ → List ℕ) → gather p 9 ≡ p 0 ++ p 1 ++ p 2 ++ p 3 ++ p 4 ++ p 5 ++ p 6 ++ p 7 ++ p 8
 unfolding gather
-gather-eight p = refl
+gather-nine p = refl
 
 -- The same as the code counts.
 pub gather-step : (p : ℕ → List ℕ) (i : ℕ) → gather p (i + 1) ≡ gather p i ++ p i

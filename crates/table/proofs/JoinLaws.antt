@@ -276,7 +276,7 @@ module _ (c : Cells) (rs : Courses) where
 
 pub formed-inside : (t : Task) → WellFormed t → Inside (cellsOf (t .table)) (coursesOf t)
 unfolding cellsOf courseOf
-formed-inside t w = record { needs = w .inside dropNeed; goal = λ i h. w .goal-inside }
+formed-inside t w = record { needs = w .inside dropNeed; goal = λ i h. w .goal-inside i }
 
 -- What solving and the session cite: the joined verdicts of a task's facts, each read off a row, are the verdict on the lists that work for it.
 pub join-for : (t : Task) → WellFormed t → (v : ℕ → Verdict) → ((f : ℕ) → f < t .table .facts → Within (KeepsFor t f) maxRow (v f))

@@ -2,7 +2,7 @@
 -- specs/Tasks asks of each. Assumes nothing.
 use mathlib.Core.Bool.{Bool, true, false, _&&_, _||_, and-true}
 use mathlib.Core.Path.{_≡_, sym, ap, _∙_}
-use Prim.Native.Nat.{ℕ, _≤_, _<_}
+use Prim.Native.Nat.{ℕ, _+_, _*_, _/_, _%_, _≤_, _<_}
 use native.Mathlib.Omega.{arith}
 use lib.Bits.{bitOr}
 use lib.Dec.{eqb, ltb}
@@ -12,11 +12,11 @@ use Rattle.facts.specs.Sets.{joined, within}
 use Rattle.facts.proofs.Laws.{within-joined}
 use Rattle.table.specs.Counting.{everyBelow, everyFrom}
 use Rattle.table.specs.Passes.{setsWithin, stepBelow}
-use Rattle.table.specs.Sizes.{maxActions, maxSteps}
-use Rattle.table.specs.Tasks.{maskFormed, actionFormed, stepFormed}
+use Rattle.table.specs.Sizes.{maxActions, maxRuns, maxSteps, allSteps}
+use Rattle.table.specs.Tasks.{countOf, maskFormed, actionFormed, stepFits, stepFormed}
 use Rattle.table.specs.declared.Table.{Table}
 use Rattle.table.specs.declared.Task.{Task}
-use Rattle.table.proofs.CountingLaws.{everyFrom-both}
+use Rattle.table.proofs.CountingLaws.{everyFrom-both, everyFrom-same, everyFrom-parts, everyBelow-parts}
 use Rattle.table.proofs.FlagLaws.{and-swap, by-order}
 
 below-one : (m : ℕ) → ltb m 1 ≡ eqb m 0
@@ -52,10 +52,51 @@ actions-pass t =
     (λ j. within n (t .facts) && within e (t .facts) && within d (t .facts) && (ltb a (t .actions) || within-none n j && within-none e j && within-none d j)) ∙
     each-set (ltb a (t .actions)) (within n (t .facts)) (within e (t .facts)) (within d (t .facts)) (eqb n 0) (eqb e 0) (eqb d 0))
 
-pub steps-pass : (t : Task)
-    → (everyFrom (stepBelow (t .run .steps) (t .table .actions)) 0 maxSteps && everyFrom (stepBelow (t .run .steps) 1) (t .run .count) maxSteps)
-    ≡ everyBelow (stepFormed t) maxSteps
-unfolding stepBelow stepFormed
-steps-pass t =
-    everyFrom-both (stepBelow (t .run .steps) (t .table .actions)) (stepBelow (t .run .steps) 1) (stepFormed t) (t .run .count) maxSteps (λ i.
-    ap (λ b. ltb (getD (t .run .steps) i 0) (t .table .actions) && (ltb i (t .run .count) || b)) (below-one (getD (t .run .steps) i 0)))
+-- ---- the steps of one run, and of the unused ones
+
+module _ (t : Task) (i : ℕ) (high : countOf (t .runs) i ≤ maxSteps) where
+  -- those that are used, those that are not, and both together
+  used-steps : everyFrom (stepBelow (t .runs .steps) (t .table .actions)) (maxSteps * i) (maxSteps * i + countOf (t .runs) i) ≡
+      everyFrom (stepFormed t) (maxSteps * i) (maxSteps * i + countOf (t .runs) i)
+  unfolding stepBelow stepFormed stepFits
+  used-steps =
+      everyFrom-same (stepBelow (t .runs .steps) (t .table .actions)) (stepFormed t) (maxSteps * i) (maxSteps * i + countOf (t .runs) i)
+      (λ p low l.
+      let run : p / maxSteps ≡ i = omega arith in
+      let step : p % maxSteps < countOf (t .runs) i = omega arith in
+      rw (run, lt-ltb (p % maxSteps) (countOf (t .runs) i) step))
+
+  unused-steps : everyFrom (stepBelow (t .runs .steps) 1) (maxSteps * i + countOf (t .runs) i) (maxSteps * i + maxSteps) ≡
+      everyFrom (stepFormed t) (maxSteps * i + countOf (t .runs) i) (maxSteps * i + maxSteps)
+  unfolding stepBelow stepFormed stepFits
+  unused-steps =
+      everyFrom-same (stepBelow (t .runs .steps) 1) (stepFormed t) (maxSteps * i + countOf (t .runs) i) (maxSteps * i + maxSteps)
+      (λ p low l.
+      let run : p / maxSteps ≡ i = omega arith in
+      let step : countOf (t .runs) i ≤ p % maxSteps = omega arith in
+      rw (run, le-ltb (p % maxSteps) (countOf (t .runs) i) step) (below-one (getD (t .runs .steps) p 0)))
+
+  pub run-pass : {used unused good : Bool}
+      → used ≡ everyFrom (stepBelow (t .runs .steps) (t .table .actions)) (maxSteps * i) (maxSteps * i + countOf (t .runs) i)
+      → unused ≡ everyFrom (stepBelow (t .runs .steps) 1) (maxSteps * i + countOf (t .runs) i) (maxSteps * i + maxSteps)
+      → good ≡ everyBelow (stepFormed t) (maxSteps * i) → (good && (used && unused)) ≡ everyBelow (stepFormed t) (maxSteps * (i + 1))
+  run-pass {used} {unused} {good} u v g =
+      let next : maxSteps * i + maxSteps ≡ maxSteps * (i + 1) = omega arith in
+      (λ j. g j && ((u ∙ used-steps) j && (v ∙ unused-steps) j))
+      ∙ ap (λ b. everyBelow (stepFormed t) (maxSteps * i) && b)
+      (everyFrom-parts (stepFormed t) (maxSteps * i) (maxSteps * i + countOf (t .runs) i) (maxSteps * i + maxSteps) (omega arith) (omega arith))
+      ∙ everyBelow-parts (stepFormed t) (maxSteps * i) (maxSteps * i + maxSteps) (omega arith)
+      ∙ ap (everyBelow (stepFormed t)) next
+
+-- the runs from `many` on have no steps
+pub rest-pass : (t : Task) → t .runs .many ≤ maxRuns → ((i : ℕ) → t .runs .many ≤ i → i < maxRuns → countOf (t .runs) i ≡ 0) → {rest good : Bool}
+    → rest ≡ everyFrom (stepBelow (t .runs .steps) 1) (maxSteps * t .runs .many) allSteps
+    → good ≡ everyBelow (stepFormed t) (maxSteps * t .runs .many) → (good && rest) ≡ everyBelow (stepFormed t) allSteps
+unfolding stepBelow stepFormed stepFits
+rest-pass t few none {rest} {good} r g =
+    (λ j. g j && r j)
+    ∙ ap (λ b. everyBelow (stepFormed t) (maxSteps * t .runs .many) && b)
+    (everyFrom-same (stepBelow (t .runs .steps) 1) (stepFormed t) (maxSteps * t .runs .many) allSteps
+    (λ p low l.
+    rw (none (p / maxSteps) (omega arith) (omega arith), le-ltb (p % maxSteps) 0 (omega arith)) (below-one (getD (t .runs .steps) p 0))))
+    ∙ everyBelow-parts (stepFormed t) (maxSteps * t .runs .many) allSteps (omega arith)

@@ -2,7 +2,7 @@
 use mathlib.Core.Bool.{Bool, true, false, cond}
 use mathlib.Core.List.{List, [], _∷_}
 use mathlib.Core.Path.{_≡_, refl, sym}
-use Prim.Native.Nat.{ℕ, _<_, _≤_}
+use Prim.Native.Nat.{ℕ, _<_}
 use native.Mathlib.Omega.{arith}
 use lib.ListN.{drop}
 use Rattle.table.proofs.FlagLaws.{cond-by}
@@ -53,12 +53,12 @@ first-placed p [] none a = sym none
 first-placed p (c ∷ cs) none a =
     cond-by {A = Refusal} (λ r. r .place ≡ p (r .number)) (c .fires) (λ _. a .0) (λ _. first-placed p cs none (a .1))
 
--- Every check's number is at most n.
-abbrev pub Bounded : ℕ → List Check → Type 0
-Bounded n [] = Unit {0}
-Bounded n (c ∷ cs) = (c .number ≤ n) × Bounded n cs
+-- Every check's number is such as P says.
+abbrev pub NumbersIn : (ℕ → Type 0) → List Check → Type 0
+NumbersIn P [] = Unit {0}
+NumbersIn P (c ∷ cs) = P (c .number) × NumbersIn P cs
 
-pub firstOf-bounded : (n : ℕ) (cs : List Check) → Bounded n cs → firstOf cs .number ≤ n
+pub firstOf-in : (P : ℕ → Type 0) (cs : List Check) → P accepted → NumbersIn P cs → P (firstOf cs .number)
 unfolding firstOf
-firstOf-bounded n [] b = omega arith
-firstOf-bounded n (c ∷ cs) b = cond-by {A = Refusal} (λ r. r .number ≤ n) (c .fires) (λ _. b .0) (λ _. firstOf-bounded n cs (b .1))
+firstOf-in P [] none b = none
+firstOf-in P (c ∷ cs) none b = cond-by {A = Refusal} (λ r. P (r .number)) (c .fires) (λ _. b .0) (λ _. firstOf-in P cs none (b .1))

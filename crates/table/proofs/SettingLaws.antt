@@ -1,7 +1,7 @@
--- Laws of specs/Setting: what one fact of a set, or of one action's set, made present or absent, changes and what it leaves. Assumes nothing.
+-- Laws of specs/Setting: what one fact of a set, or of the set of one action or run, made present or absent, changes and what it leaves. Assumes nothing.
 use mathlib.Core.Bool.{Bool, true, false, not, _&&_, _||_, cond, or-true, or-false, and-true, and-false}
 use mathlib.Core.List.{List}
-use mathlib.Core.Path.{_≡_, _∙_, subst}
+use mathlib.Core.Path.{_≡_, refl, ap, _∙_, subst}
 use Prim.Native.Nat.{ℕ, _<_}
 use native.Mathlib.Omega.{arith}
 use lib.Dec.{eqb}
@@ -34,3 +34,12 @@ getD-setIn s a f p b h =
     let same : a ≡ b = omega (arith, eqb-true b a e) in
     subst (λ (j : ℕ). getD (setIn s a f p) j 0 ≡ setFact (getD s j 0) f p) same (getD-set-same s a (setFact (getD s a 0) f p) 0 h))
     (λ e. getD-set-other s a b (setFact (getD s a 0) f p) 0 (eqb-false b a e))
+
+-- The one law of a cell that is set: it has the value, and every other cell is as it was.
+pub has-setIn : (s : List ℕ) (a f : ℕ) (p : Bool) (b g : ℕ) → a < length s → f < width
+    → has (getD (setIn s a f p) b 0) g ≡ cond (eqb b a && eqb g f) p (has (getD s b 0) g)
+has-setIn s a f p b g h l = ap (λ (m : ℕ). has m g) (getD-setIn s a f p b h) ∙ inner (eqb b a)
+  where
+    inner : (e : Bool) → has (cond e (setFact (getD s b 0) f p) (getD s b 0)) g ≡ cond (e && eqb g f) p (has (getD s b 0) g)
+    inner true = has-setFact (getD s b 0) f p g l
+    inner false = refl

@@ -6,7 +6,7 @@ use mathlib.Core.Path.{_≡_, refl, ap, _∙_}
 use Prim.Native.Nat.{ℕ}
 use native.Mathlib.Omega.{arith}
 use Rattle.facts.specs.Sets.{has, within}
-use Rattle.table.proofs.DecidingLaws.{is-all-right, is-shaped}
+use Rattle.table.proofs.DecidingLaws.{is-all-right, is-formed}
 use Rattle.table.proofs.FlagLaws.{both, by-order}
 use Rattle.table.proofs.CountingLaws.{everyBelow-all}
 use Rattle.table.proofs.Formation.{formed-well}
@@ -15,12 +15,12 @@ use Rattle.table.proofs.OrderLaws.{isIn-none, isIn-cases, ≼-length}
 use Rattle.table.proofs.RunLaws.{right-all-valid}
 use Rattle.table.specs.Bench.{listingTask, goalsAtStart, addsAndDeletes, deletesTheGoal, needsLastFact}
 use Rattle.table.specs.Counting.{everyBelow}
-use Rattle.table.specs.Deciding.{isRight, isAllRight, isShaped}
+use Rattle.table.specs.Deciding.{isRight, isAllRight, isShaped, everyPlace, isFormed}
 use Rattle.table.specs.Order.{Ascending, isIn, _≼_}
 use Rattle.table.specs.Repairs.{permits, permitted, chosen, repaired}
 use Rattle.table.specs.Strips.{Cells, stateAt, AllRight}
-use Rattle.table.specs.Tasks.{cellsOf, courseOf, coursesOf, formed, sizesFormed, maskFormed, actionFormed, stepFormed, WellFormed, WorksFor}
-use Rattle.table.specs.Worked.{twoDeletes, Worked}
+use Rattle.table.specs.Tasks.{cellsOf, courseOf, coursesOf, sizesFormed, runFits, runFormed, maskFormed, actionFormed, stepFits, WellFormed, WorksFor}
+use Rattle.table.specs.Worked.{twoDeletes, twoRuns, Worked}
 use Rattle.table.specs.declared.Task.{Task}
 
 -- ---- what computing decides of a list
@@ -50,18 +50,18 @@ each-right t l w h f =
 
 -- A well-formed task, with arrays of their declared lengths, and a permitted list with which every fact is right.
 unfoldable passes : Task → List ℕ → Bool
-passes t l = isShaped t && formed t && (allPermitted (cellsOf (t .table)) l && everyBelow (rightWith t l) (t .table .facts))
+passes t l = isFormed t && (allPermitted (cellsOf (t .table)) l && everyBelow (rightWith t l) (t .table .facts))
 
 works-by : (t : Task) (l : List ℕ) → Ascending l → passes t l ≡ true → WorksFor t l
 unfolding passes
 works-by t l up h =
-    let p = both (isShaped t && formed t) _ h in
-    let q = both (isShaped t) (formed t) (p .0) in
+    let p = both (isFormed t) _ h in
+    let q = is-formed t (p .0) in
     let s = both (allPermitted (cellsOf (t .table)) l) (everyBelow (rightWith t l) (t .table .facts)) (p .1) in
     record {
       permitted = record { ascending = up; each = all-permitted (cellsOf (t .table)) l (s .0) };
       valid = right-all-valid (repaired (cellsOf (t .table)) (isIn l)) (coursesOf t)
-          (each-right t l (formed-well t (is-shaped t (q .0)) (q .1)) (s .1));
+          (each-right t l (formed-well t (q .0) (q .1)) (s .1));
     }
 
 -- ---- the order
@@ -80,7 +80,7 @@ later (inr (inr h)) = absurd (omega (arith, h .0))
 -- ---- the theorem
 
 pub worked : Worked
-unfolding passes isShaped formed sizesFormed actionFormed maskFormed stepFormed everyBelow cellsOf courseOf stateAt isRight isAllRight allPermitted permitted permits chosen isIn has within
+unfolding passes isFormed isShaped sizesFormed runFormed runFits actionFormed maskFormed stepFits everyPlace everyBelow cellsOf courseOf stateAt isRight isAllRight allPermitted permitted permits chosen isIn has within
 worked =
     let zero : WorksFor deletesTheGoal (0 ∷ []) = works-by deletesTheGoal (0 ∷ []) (omega arith, tt) refl in
     let none : WorksFor deletesTheGoal [] → ⊥ = λ w. false≢true (w .valid 0 (omega arith) .reaches 0 refl) in
@@ -115,4 +115,8 @@ worked =
         λ w. false≢true (w .valid 0 (omega arith) .may-run 1 (omega arith) 0 refl),
       );
       number = (need, λ p. absurd (omega (arith, ≼-length (0 ∷ 1 ∷ []) (66 ∷ []) (p .least (66 ∷ []) need))));
+      both-runs = (
+        works-by twoRuns (32 ∷ []) (omega arith, tt) refl,
+        λ w. false≢true (w .valid 1 (omega arith) .reaches 0 refl),
+      );
     }

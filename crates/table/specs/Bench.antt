@@ -1,15 +1,15 @@
 -- The tasks of document 01's bench sheet, each written once. What the calls give for them: promises/specs/Sheet.
 use mathlib.Core.List.{List, [], _∷_, _++_}
-use Prim.Native.Nat.{ℕ, zero, suc, _+_, _^_}
-use lib.ListN.{length, take, replicate}
-use Rattle.table.specs.Sizes.{maxFacts, maxActions, maxSteps, maxLimit}
+use Prim.Native.Nat.{ℕ, zero, suc, _+_, _-_, _^_}
+use lib.ListN.{length, set, take, replicate}
+use Rattle.table.specs.Sizes.{maxFacts, maxActions, maxRuns, maxSteps, allSteps, maxLimit}
 use Rattle.table.specs.declared.Task.{Task}
 
 -- An array of n places whose first are l, the others zero.
 abbrev filled : ℕ → List ℕ → List ℕ
 filled n l = take n (l ++ replicate n 0)
 
--- F, A and L; the needs, adds and deletes of the first actions; start, goal and steps. A set of facts is a mask: fact f is bit f.
+-- F, A and L; the needs, adds and deletes of the first actions; start, goal and steps of the one run. A set of facts is a mask: fact f is bit f.
 abbrev pub task : ℕ → ℕ → ℕ → List ℕ → List ℕ → List ℕ → ℕ → ℕ → List ℕ → Task
 task f a l needs adds deletes start goal steps = record {
   table = record {
@@ -20,7 +20,26 @@ task f a l needs adds deletes start goal steps = record {
     adds = filled maxActions adds;
     deletes = filled maxActions deletes;
   };
-  run = record { start = start; goal = goal; count = length steps; steps = filled maxSteps steps };
+  runs = record {
+    many = 1;
+    starts = filled maxRuns (start ∷ []);
+    goals = filled maxRuns (goal ∷ []);
+    counts = filled maxRuns (length steps ∷ []);
+    steps = filled allSteps steps;
+  };
+}
+
+-- The same table with a second run (02, request 1).
+abbrev pub secondRun : Task → ℕ → ℕ → List ℕ → Task
+secondRun t start goal steps = record {
+  table = t .table;
+  runs = record {
+    many = 2;
+    starts = set (t .runs .starts) 1 start;
+    goals = set (t .runs .goals) 1 goal;
+    counts = set (t .runs .counts) 1 (length steps);
+    steps = take maxSteps (t .runs .steps) ++ filled (allSteps - maxSteps) steps;
+  };
 }
 
 -- 2. "The file above", and 3. "The same, L = 1", "L = 2"; 11. "Case 2 with its last step 03".

@@ -1,4 +1,4 @@
--- The refusal numbers of document 01, by name, and how the order of refusals is said: an ordered list of checks,
+-- The refusal numbers of documents 01 and 02, by name, and how the order of refusals is said: an ordered list of checks,
 -- of which the first that fires is the answer.
 use mathlib.Core.Bool.{Bool, cond}
 use mathlib.Core.List.{List, [], _∷_}
@@ -47,11 +47,16 @@ notWellFormed = 12
 abbrev pub notASession : ℕ
 notASession = 13
 
-abbrev pub editOutside : ℕ
-editOutside = 14
+-- An edit names a fact, an action or a run that isn't there, or a run check a run (02, request 1).
+abbrev pub notThere : ℕ
+notThere = 14
 
 abbrev pub listNotPermitted : ℕ
 listNotPermitted = 15
+
+-- 02, request 1: "16, at its kind byte, for a ninth run, after 6 and before 7".
+abbrev pub tooManyRuns : ℕ
+tooManyRuns = 16
 
 -- One check: does it fire, with which number, at which place.
 pub record Check : Type 0 where

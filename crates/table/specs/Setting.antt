@@ -9,6 +9,6 @@ use Rattle.facts.specs.Sets.{joined, removed, only}
 abbrev pub setFact : ℕ → ℕ → Bool → ℕ
 setFact m f present = cond present (joined m (only f)) (removed m (only f))
 
--- The same in the set of action a of a row of sets.
+-- The same in the set of action or run a of a row of sets.
 abbrev pub setIn : List ℕ → ℕ → ℕ → Bool → List ℕ
 setIn sets a f present = set sets a (setFact (getD sets a 0) f present)

@@ -1,5 +1,5 @@
--- Every size, stride and bound of document 01, by one name each.
-use Prim.Native.Nat.{ℕ}
+-- Every size, stride and bound of documents 01 and 02, by one name each.
+use Prim.Native.Nat.{ℕ, _*_}
 
 -- "F 1 to 64, A 1 to 32, n 0 to 64, limit L 0 to 6" (01, "Sizes").
 abbrev pub maxFacts : ℕ
@@ -11,9 +11,13 @@ maxActions = 32
 abbrev pub maxSteps : ℕ
 maxSteps = 64
 
--- A task has one run.
+-- "A file may hold up to eight runs", "The limit of 64 steps holds for each run" (02, request 1).
 abbrev pub maxRuns : ℕ
-maxRuns = 1
+maxRuns = 8
+
+-- The steps of all runs.
+abbrev pub allSteps : ℕ
+allSteps = maxSteps * maxRuns
 
 abbrev pub maxLimit : ℕ
 maxLimit = 6

@@ -20,11 +20,12 @@ pub record Course : Type 0 where
   pub count : ℕ
   pub step : ℕ → ℕ
 
--- The known runs of one table: so many, each a course (source document 000, multiple instances). A task has one of them.
+-- The known runs of one table: so many, each a course (source document 000, multiple instances; 02, request 1).
 pub record Courses : Type 0 where
   pub many : ℕ
   pub course : ℕ → Course
 
+-- A run by itself.
 abbrev pub one : Course → Courses
 one r = record { many = 1; course = λ i. r }
 

@@ -1,18 +1,18 @@
--- Which sets and which run a task of the code stands for, and when a task is well formed: document 01, "Sizes".
-use mathlib.Core.Bool.{Bool, false, _&&_, _||_}
+-- Which sets and which runs a task of the code stands for, and when a task is well formed: document 01, "Sizes"; 02, request 1.
+use mathlib.Core.Bool.{Bool, false, cond, _&&_, _||_}
 use mathlib.Core.List.{List}
 use mathlib.Core.Path.{_≡_}
-use Prim.Native.Nat.{ℕ, _<_, _≤_}
+use Prim.Native.Nat.{ℕ, _+_, _*_, _/_, _%_, _<_, _≤_}
 use lib.Dec.{eqb, leb, ltb}
 use lib.ListN.{length, getD}
 use Rattle.facts.specs.Sets.{has, within}
 use Rattle.table.specs.Counting.{everyBelow}
-use Rattle.table.specs.Sizes.{maxFacts, maxActions, maxSteps, maxLimit}
+use Rattle.table.specs.Sizes.{maxFacts, maxActions, maxRuns, maxSteps, allSteps, maxLimit}
 use Rattle.table.specs.Repairs.{byKind}
-use Rattle.table.specs.Strips.{Cells, Course, Courses, one}
+use Rattle.table.specs.Strips.{Cells, Course, Courses}
 use Rattle.table.specs.Answer.{Works, Keeps}
 use Rattle.table.specs.declared.Table.{Table}
-use Rattle.table.specs.declared.Run.{Run}
+use Rattle.table.specs.declared.Runs.{Runs}
 use Rattle.table.specs.declared.Task.{Task}
 
 -- The table as sets: fact f is in a set if bit f of the action's mask is one.
@@ -25,17 +25,30 @@ cellsOf t = record {
   deletes = λ a f. has (getD (t .deletes) a 0) f;
 }
 
-unfoldable pub courseOf : Run → Course
-courseOf r = record {
-  start = λ f. has (r .start) f;
-  goal = λ f. has (r .goal) f;
-  count = r .count;
-  step = λ i. getD (r .steps) i 0;
+-- The start and goal sets and the number of steps of run i, and its step j: the steps of run i stand from place 64i on.
+abbrev pub startOf : Runs → ℕ → ℕ
+startOf r i = getD (r .starts) i 0
+
+abbrev pub goalOf : Runs → ℕ → ℕ
+goalOf r i = getD (r .goals) i 0
+
+abbrev pub countOf : Runs → ℕ → ℕ
+countOf r i = getD (r .counts) i 0
+
+abbrev pub stepOf : Runs → ℕ → ℕ → ℕ
+stepOf r i j = getD (r .steps) (maxSteps * i + j) 0
+
+unfoldable pub courseOf : Runs → ℕ → Course
+courseOf r i = record {
+  start = λ f. has (startOf r i) f;
+  goal = λ f. has (goalOf r i) f;
+  count = countOf r i;
+  step = stepOf r i;
 }
 
--- The runs of a task: the one that it has.
+-- The runs of a task.
 abbrev pub coursesOf : Task → Courses
-coursesOf t = one (courseOf (t .run))
+coursesOf t = record { many = t .runs .many; course = courseOf (t .runs) }
 
 -- The lists that work for a task, and those that keep one fact of it right.
 abbrev pub WorksFor : Task → List ℕ → Type 0
@@ -55,7 +68,7 @@ withLimit t l = record {
     adds = t .table .adds;
     deletes = t .table .deletes;
   };
-  run = t .run;
+  runs = t .runs;
 }
 
 -- The mask of deletes, adds or needs of action a, by the kind of repair that concerns it.
@@ -67,7 +80,7 @@ unfoldable pub sizesFormed : Task → Bool
 sizesFormed t =
     ltb 0 (t .table .facts) && leb (t .table .facts) maxFacts &&
     (ltb 0 (t .table .actions) && leb (t .table .actions) maxActions) &&
-    (leb (t .table .limit) maxLimit && leb (t .run .count) maxSteps)
+    (leb (t .table .limit) maxLimit && (ltb 0 (t .runs .many) && leb (t .runs .many) maxRuns))
 
 -- "no set has a fact at or above F", "everything for unused actions .. is zero"
 unfoldable pub maskFormed : Table → ℕ → ℕ → Bool
@@ -78,24 +91,37 @@ actionFormed t a =
     maskFormed t a (getD (t .needs) a 0) && maskFormed t a (getD (t .adds) a 0) &&
     maskFormed t a (getD (t .deletes) a 0)
 
--- "steps are below A", "everything for unused .. steps is zero"
+-- Of a run's start and goal sets and its number of steps: "no set has a fact at or above F"; "The limit of 64 steps holds for each run";
+-- "Everything for unused runs is zero" (02, request 1).
+unfoldable pub runFits : ℕ → ℕ → ℕ → ℕ → Bool → Bool
+runFits start goal count facts used =
+    within start facts && within goal facts && leb count maxSteps && (used || (eqb start 0 && eqb goal 0 && eqb count 0))
+
+unfoldable pub runFormed : Task → ℕ → Bool
+runFormed t i = runFits (startOf (t .runs) i) (goalOf (t .runs) i) (countOf (t .runs) i) (t .table .facts) (ltb i (t .runs .many))
+
+-- "steps are below A", "everything for unused .. steps is zero": the step a at place p of all steps, which is of run p / 64.
+unfoldable pub stepFits : Task → ℕ → ℕ → Bool
+stepFits t p a = cond (ltb (p % maxSteps) (countOf (t .runs) (p / maxSteps))) (ltb a (t .table .actions)) (eqb a 0)
+
 unfoldable pub stepFormed : Task → ℕ → Bool
-stepFormed t i = ltb (getD (t .run .steps) i 0) (t .table .actions) && (ltb i (t .run .count) || eqb (getD (t .run .steps) i 0) 0)
+stepFormed t p = stepFits t p (getD (t .runs .steps) p 0)
 
 unfoldable pub formed : Task → Bool
 formed t =
-    sizesFormed t && everyBelow (actionFormed (t .table)) maxActions &&
-    (within (t .run .start) (t .table .facts) && within (t .run .goal) (t .table .facts)) &&
-    everyBelow (stepFormed t) maxSteps
+    sizesFormed t && everyBelow (runFormed t) maxRuns && everyBelow (actionFormed (t .table)) maxActions && everyBelow (stepFormed t) allSteps
 
 -- An array of the code has its declared length; the lists of the logic do not say so by themselves.
 pub record Shaped (t : Task) : Type 0 where
   pub needs : length (t .table .needs) ≡ maxActions
   pub adds : length (t .table .adds) ≡ maxActions
   pub deletes : length (t .table .deletes) ≡ maxActions
-  pub steps : length (t .run .steps) ≡ maxSteps
+  pub starts : length (t .runs .starts) ≡ maxRuns
+  pub goals : length (t .runs .goals) ≡ maxRuns
+  pub counts : length (t .runs .counts) ≡ maxRuns
+  pub steps : length (t .runs .steps) ≡ allSteps
 
--- The same, for a reader and for the proofs: each part of "A task is well formed if .." by its name.
+-- The same, for a reader and for the proofs: each part of "A task is well formed if .." by its name. i is a run, j one of its steps.
 pub record WellFormed (t : Task) : Type 0 where
   pub shaped : Shaped t
   pub facts-low : 0 < t .table .facts
@@ -103,10 +129,15 @@ pub record WellFormed (t : Task) : Type 0 where
   pub actions-low : 0 < t .table .actions
   pub actions-high : t .table .actions ≤ maxActions
   pub limit-high : t .table .limit ≤ maxLimit
-  pub count-high : t .run .count ≤ maxSteps
+  pub many-low : 0 < t .runs .many
+  pub many-high : t .runs .many ≤ maxRuns
+  pub count-high : (i : ℕ) → countOf (t .runs) i ≤ maxSteps
   pub inside : (k a f : ℕ) → t .table .facts ≤ f → has (maskOf (t .table) k a) f ≡ false
-  pub start-inside : (f : ℕ) → t .table .facts ≤ f → has (t .run .start) f ≡ false
-  pub goal-inside : (f : ℕ) → t .table .facts ≤ f → has (t .run .goal) f ≡ false
-  pub steps-below : (i : ℕ) → i < t .run .count → getD (t .run .steps) i 0 < t .table .actions
+  pub start-inside : (i f : ℕ) → t .table .facts ≤ f → has (startOf (t .runs) i) f ≡ false
+  pub goal-inside : (i f : ℕ) → t .table .facts ≤ f → has (goalOf (t .runs) i) f ≡ false
+  pub steps-below : (i j : ℕ) → j < countOf (t .runs) i → stepOf (t .runs) i j < t .table .actions
   pub actions-unused : (k a : ℕ) → t .table .actions ≤ a → maskOf (t .table) k a ≡ 0
-  pub steps-unused : (i : ℕ) → t .run .count ≤ i → getD (t .run .steps) i 0 ≡ 0
+  pub start-unused : (i : ℕ) → t .runs .many ≤ i → startOf (t .runs) i ≡ 0
+  pub goal-unused : (i : ℕ) → t .runs .many ≤ i → goalOf (t .runs) i ≡ 0
+  pub count-unused : (i : ℕ) → t .runs .many ≤ i → countOf (t .runs) i ≡ 0
+  pub steps-unused : (i j : ℕ) → countOf (t .runs) i ≤ j → j < maxSteps → stepOf (t .runs) i j ≡ 0

@@ -1,13 +1,13 @@
--- Worked examples: rows of document 01's bench sheet, said of the definitions alone (Refusals, Strips, Repairs, Order, Answer), with no code
+-- Worked examples: rows of document 01's bench sheet and a case of 02's request 1, said of the definitions alone (Refusals, Strips, Repairs, Order, Answer), with no code
 -- and no search. They hold (proofs/Worked), and a definition that says something else than 01 breaks one of them.
 use mathlib.Core.Bool.{Bool, true, false}
 use mathlib.Core.List.{List, [], _∷_, map}
 use mathlib.Core.Path.{_≡_}
 use Prim.Native.Nat.{ℕ}
 use Rattle.table.specs.Answer.{First, found, over, hopeless, Within}
-use Rattle.table.specs.Bench.{task, listingTask, goalsAtStart, goalOutOfReach, addsAndDeletes, deletesTheGoal, needsLastFact}
+use Rattle.table.specs.Bench.{task, secondRun, listingTask, goalsAtStart, goalOutOfReach, addsAndDeletes, deletesTheGoal, needsLastFact}
 use Rattle.table.specs.Order.{_≼_}
-use Rattle.table.specs.Refusals.{accepted, noEnd, unknownKind, sizesMisplaced, sizeOutside, numberOutside, notAscending, tooManySteps, bytesAfterEnd, noListWorks, overTheLimit, roomTooShort, notWellFormed, notASession, editOutside, listNotPermitted}
+use Rattle.table.specs.Refusals.{accepted, noEnd, unknownKind, sizesMisplaced, sizeOutside, numberOutside, notAscending, tooManySteps, bytesAfterEnd, noListWorks, overTheLimit, roomTooShort, notWellFormed, notASession, notThere, listNotPermitted, tooManyRuns}
 use Rattle.table.specs.Repairs.{dropDelete, addEffect, dropNeed, numberOf, permitted}
 use Rattle.table.specs.Sizes.{maxLimit}
 use Rattle.table.specs.Tasks.{cellsOf, WorksFor}
@@ -17,16 +17,20 @@ use Rattle.table.specs.declared.Task.{Task}
 abbrev pub twoDeletes : Task
 twoDeletes = task 1 3 maxLimit (0 ∷ 0 ∷ 0b1 ∷ []) [] (0b1 ∷ 0b1 ∷ []) 0b1 0 (0 ∷ 2 ∷ 1 ∷ 2 ∷ [])
 
+-- "A table cured for our short run broke the long one" (02, request 1), at its smallest: row 7, and a second run that starts without fact 0.
+abbrev pub twoRuns : Task
+twoRuns = secondRun deletesTheGoal 0 0b1 (0 ∷ [])
+
 -- Which of these numbers name a permitted repair of the task.
 abbrev pub permitsEach : Task → List ℕ → List Bool
 permitsEach t = map (permitted (cellsOf (t .table)))
 
 pub record Worked : Type 0 where
-  -- The names of Refusals are the rows of 01's table of refusals, 1 to 15, after success.
+  -- The names of Refusals are the rows of 01's table of refusals, 1 to 15, after success; and 02's.
   pub refusals :
       (accepted ∷ noEnd ∷ unknownKind ∷ sizesMisplaced ∷ sizeOutside ∷ numberOutside ∷ notAscending ∷ tooManySteps ∷ bytesAfterEnd ∷ noListWorks ∷
-      overTheLimit ∷ roomTooShort ∷ notWellFormed ∷ notASession ∷ editOutside ∷ listNotPermitted ∷ [])
-      ≡ (0 ∷ 1 ∷ 2 ∷ 3 ∷ 4 ∷ 5 ∷ 6 ∷ 7 ∷ 8 ∷ 9 ∷ 10 ∷ 11 ∷ 12 ∷ 13 ∷ 14 ∷ 15 ∷ [])
+      overTheLimit ∷ roomTooShort ∷ notWellFormed ∷ notASession ∷ notThere ∷ listNotPermitted ∷ tooManyRuns ∷ [])
+      ≡ (0 ∷ 1 ∷ 2 ∷ 3 ∷ 4 ∷ 5 ∷ 6 ∷ 7 ∷ 8 ∷ 9 ∷ 10 ∷ 11 ∷ 12 ∷ 13 ∷ 14 ∷ 15 ∷ 16 ∷ [])
   -- "The number of a repair is 96f + 32k + a, from 0 to 6143": the numbers of rows 2 and 8, and the last
   pub numbers : (numberOf 1 dropDelete 1 ≡ 97) × (numberOf 2 addEffect 0 ≡ 224) × (numberOf 63 dropNeed 0 ≡ 6112) × (numberOf 63 dropNeed 31 ≡ 6143)
   -- Permitted by kind: 0, 32, 64 are the three repairs of fact 0 and action 0. Row 7's action deletes the fact, row 6's adds it too. Action
@@ -49,3 +53,5 @@ pub record Worked : Type 0 where
   -- 0, 1 works and no part of it does; but 66 works too and is shorter, so that 0, 1 is not the answer.
   pub inclusion : WorksFor twoDeletes (0 ∷ 1 ∷ []) × (WorksFor twoDeletes (0 ∷ []) → ⊥) × (WorksFor twoDeletes (1 ∷ []) → ⊥)
   pub number : WorksFor twoDeletes (66 ∷ []) × (First (WorksFor twoDeletes) (0 ∷ 1 ∷ []) → ⊥)
+  -- Row 7's list, 0, is not enough for both runs; 32 is, and the second run alone is what 0 leaves refused.
+  pub both-runs : WorksFor twoRuns (32 ∷ []) × (WorksFor twoRuns (0 ∷ []) → ⊥)

@@ -1,16 +1,19 @@
 // Well-formedness, decided as document 01, "Sizes", words it: each test is the definition of its name in specs/Tasks.
 use crate::ACTIONS;
+use crate::ALL_STEPS;
 use crate::FACTS;
 use crate::LIMIT;
+use crate::RUNS;
 use crate::STEPS;
 use crate::Task;
+ghost use mathlib.Core.Bool.{true};
 ghost use mathlib.Core.Path.{_≡_};
 ghost use denote.Ref.{now};
 ghost use Prim.Native.Nat.{_≤_};
 ghost use Rattle.table.specs.Counting.{everyBelow, everyFrom};
 ghost use Rattle.table.specs.Passes.{setsWithin, stepBelow};
-ghost use Rattle.table.specs.Sizes.{maxActions, maxSteps};
-ghost use Rattle.table.specs.Tasks.{formed, sizesFormed, actionFormed, stepFormed};
+ghost use Rattle.table.specs.Sizes.{maxActions, maxRuns, allSteps};
+ghost use Rattle.table.specs.Tasks.{formed, sizesFormed, runFits, runFormed, actionFormed, stepFormed};
 
 // "its sizes are in range"
 fn are_sizes_formed(t: Task) -> bool
@@ -19,11 +22,37 @@ fn are_sizes_formed(t: Task) -> bool
     let facts = t.table.facts;
     let actions = t.table.actions;
     let limit = t.table.limit;
-    let count = t.run.count;
+    let many = t.runs.many;
     (0 < facts)
         & (facts <= FACTS)
         & ((0 < actions) & (actions <= ACTIONS))
-        & ((limit <= LIMIT) & (count <= STEPS))
+        & ((limit <= LIMIT) & ((0 < many) & (many <= RUNS)))
+}
+
+// Of one run: "no set has a fact at or above F", at most 64 steps; and of one that is not used that all of it is zero.
+fn is_run_formed(start: u64, goal: u64, count: usize, facts: usize, used: bool) -> bool
+    ensures { λ r. ⌜ r ≡ runFits start goal count facts used ⌝ }
+{
+    facts::is_within(start, facts)
+        & facts::is_within(goal, facts)
+        & (count <= STEPS)
+        & (used | ((start == 0) & (goal == 0) & (count == 0)))
+}
+
+// "Everything for unused runs is zero."
+fn are_runs_formed(t: Task) -> bool
+    ensures { λ r. ⌜ r ≡ everyBelow (runFormed t) maxRuns ⌝ }
+{
+    let facts = t.table.facts;
+    let many = t.runs.many;
+    let starts = t.runs.starts;
+    let goals = t.runs.goals;
+    let counts = t.runs.counts;
+    let mut good = true;
+    for i in 0..RUNS {
+        good = good & is_run_formed(starts[i], goals[i], counts[i], facts, i < many);
+    }
+    good
 }
 
 // Whether no set of an action from `from` on has a fact at or above n. The sets are joined, all alike, and the join is tested
@@ -56,28 +85,38 @@ fn are_actions_formed(t: Task) -> bool
         & are_within(&t.table.needs, &t.table.adds, &t.table.deletes, actions, 0)
 }
 
-// Whether every step from `from` on is below n. All are compared, as bytes, and none ends the loop early: for the same reason.
-fn are_below(steps: &[u8; STEPS], from: usize, n: u8) -> bool
-    requires { ⌜ from ≤ maxSteps ⌝ }
-    ensures { λ r. ⌜ r ≡ everyFrom (stepBelow (now (steps .entry)) n) from maxSteps ⌝ }
+// Whether every step from `from` on and before `to` is below n. All are compared, as bytes, and none ends the loop early: for the
+// same reason.
+fn are_below(steps: &[u8; ALL_STEPS], from: usize, to: usize, n: u8) -> bool
+    requires { ⌜ (from ≤ to) × (to ≤ allSteps) ⌝ }
+    ensures { λ r. ⌜ r ≡ everyFrom (stepBelow (now (steps .entry)) n) from to ⌝ }
 {
     let mut good = true;
-    for i in from..STEPS {
+    for i in from..to {
         good = good & (steps[i] < n);
     }
     good
 }
 
-// "steps are below A", "everything for unused .. steps is zero"
+// "steps are below A", "everything for unused .. steps is zero": run by run, and the places of the unused runs at once.
 fn are_steps_formed(t: Task) -> bool
-    requires { ⌜ t .run .count ≤ maxSteps ⌝ }
+    requires { ⌜ t .runs .many ≤ maxRuns ⌝ }
     requires { ⌜ t .table .actions ≤ maxActions ⌝ }
-    ensures { λ r. ⌜ r ≡ everyBelow (stepFormed t) maxSteps ⌝ }
+    requires { ⌜ everyBelow (runFormed t) maxRuns ≡ true ⌝ }
+    ensures { λ r. ⌜ r ≡ everyBelow (stepFormed t) allSteps ⌝ }
 {
-    let steps = t.run.steps;
-    let actions = t.table.actions;
-    let count = t.run.count;
-    are_below(&steps, 0, actions as u8) & are_below(&steps, count, 1)
+    let actions = t.table.actions as u8;
+    let many = t.runs.many;
+    let counts = t.runs.counts;
+    let mut good = true;
+    for i in 0..many {
+        let first = STEPS * i;
+        let used = first + counts[i];
+        good = good
+            & (are_below(&t.runs.steps, first, used, actions)
+                & are_below(&t.runs.steps, used, first + STEPS, 1));
+    }
+    good & are_below(&t.runs.steps, STEPS * many, ALL_STEPS, 1)
 }
 
 // Whether the task is well formed, for any task whatever.
@@ -87,10 +126,8 @@ pub fn is_formed(t: Task) -> bool
     if !are_sizes_formed(t) {
         return false;
     }
-    let facts = t.table.facts;
-    let start = t.run.start;
-    let goal = t.run.goal;
-    are_actions_formed(t)
-        & (facts::is_within(start, facts) & facts::is_within(goal, facts))
-        & are_steps_formed(t)
+    if !are_runs_formed(t) {
+        return false;
+    }
+    are_actions_formed(t) & are_steps_formed(t)
 }

@@ -1,5 +1,5 @@
-// The action table, the run and the task by value (document 01, "Sizes" and "The model and its run"); the meaning of
-// them is in specs/.
+// The action table, the runs and the task by value (document 01, "Sizes" and "The model and its run"; 02, request 1); the
+// meaning of them is in specs/.
 pub mod cells;
 pub mod formed;
 pub mod permitted;
@@ -8,7 +8,7 @@ pub mod repair;
 
 use repair::Repair;
 ghost use mathlib.Core.Path.{_≡_};
-ghost use Rattle.table.specs.Sizes.{maxFacts, maxActions, maxSteps, maxLimit, maxRow, rowPlaces, allRows, sessionPlaces, unused, kinds, perFact, perKind, lastRepair};
+ghost use Rattle.table.specs.Sizes.{maxFacts, maxActions, maxSteps, maxRuns, allSteps, maxLimit, maxRow, rowPlaces, allRows, sessionPlaces, unused, kinds, perFact, perKind, lastRepair};
 ghost use Rattle.table.specs.Outcomes as outcomes;
 ghost use Rattle.table.specs.Repairs.{dropDelete, addEffect, dropNeed};
 
@@ -19,7 +19,10 @@ pub const ACTIONS: usize = 32;
 
 pub const STEPS: usize = 64;
 
-pub const RUNS: usize = 1;
+pub const RUNS: usize = 8;
+
+// The steps of all runs.
+pub const ALL_STEPS: usize = STEPS * RUNS;
 
 pub const LIMIT: usize = 6;
 
@@ -44,17 +47,19 @@ pub struct Table {
     pub deletes: [u64; ACTIONS],
 }
 
-// One known run: what holds at the start, what must hold at the end, and the steps.
-pub struct Run {
-    pub start: u64,
-    pub goal: u64,
-    pub count: usize,
-    pub steps: [u8; STEPS],
+// The known runs: how many there are; of each what holds at its start, what must hold at its end and how many steps it has;
+// and the steps of all, those of run i from place 64i on.
+pub struct Runs {
+    pub many: usize,
+    pub starts: [u64; RUNS],
+    pub goals: [u64; RUNS],
+    pub counts: [usize; RUNS],
+    pub steps: [u8; ALL_STEPS],
 }
 
 pub struct Task {
     pub table: Table,
-    pub run: Run,
+    pub runs: Runs,
 }
 
 // What a call answers beside what it writes: 0 and 0, or the refusal's number and place; and how much it wrote.
@@ -88,6 +93,8 @@ pub struct Constants {
     pub facts: usize,
     pub actions: usize,
     pub steps: usize,
+    pub runs: usize,
+    pub all_steps: usize,
     pub limit: usize,
     pub row: usize,
     pub row_places: usize,
@@ -110,6 +117,8 @@ pub fn bounds() -> Constants
           facts = maxFacts;
           actions = maxActions;
           steps = maxSteps;
+          runs = maxRuns;
+          «all_steps» = allSteps;
           limit = maxLimit;
           row = maxRow;
           «row_places» = rowPlaces;
@@ -129,6 +138,8 @@ pub fn bounds() -> Constants
         facts: FACTS,
         actions: ACTIONS,
         steps: STEPS,
+        runs: RUNS,
+        all_steps: ALL_STEPS,
         limit: LIMIT,
         row: ROW,
         row_places: ROW_PLACES,

@@ -1,7 +1,7 @@
-// The refusal numbers of document 01, by one name each; `numbers` shows that they are those of specs/Refusals.
+// The refusal numbers of documents 01 and 02, by one name each; `numbers` shows that they are those of specs/Refusals.
 ghost use mathlib.Core.List.{_∷_, []};
 ghost use mathlib.Core.Path.{_≡_};
-ghost use Rattle.table.specs.Refusals.{accepted, noEnd, unknownKind, sizesMisplaced, sizeOutside, numberOutside, notAscending, tooManySteps, bytesAfterEnd, noListWorks, overTheLimit, roomTooShort, notWellFormed, notASession, editOutside, listNotPermitted};
+ghost use Rattle.table.specs.Refusals.{accepted, noEnd, unknownKind, sizesMisplaced, sizeOutside, numberOutside, notAscending, tooManySteps, bytesAfterEnd, noListWorks, overTheLimit, roomTooShort, notWellFormed, notASession, notThere, listNotPermitted, tooManyRuns};
 
 pub const ACCEPTED: usize = 0;
 
@@ -31,16 +31,18 @@ pub const NOT_WELL_FORMED: usize = 12;
 
 pub const NOT_A_SESSION: usize = 13;
 
-pub const EDIT_OUTSIDE: usize = 14;
+pub const NOT_THERE: usize = 14;
 
 pub const LIST_NOT_PERMITTED: usize = 15;
 
+pub const TOO_MANY_RUNS: usize = 16;
+
 // How many numbers there are, success among them.
-pub const NUMBERS: usize = 16;
+pub const NUMBERS: usize = 17;
 
 // The code's numbers, in order, are the definitions'.
 pub fn numbers() -> [usize; NUMBERS]
-    ensures { λ r. ⌜ r ≡ (accepted ∷ noEnd ∷ unknownKind ∷ sizesMisplaced ∷ sizeOutside ∷ numberOutside ∷ notAscending ∷ tooManySteps ∷ bytesAfterEnd ∷ noListWorks ∷ overTheLimit ∷ roomTooShort ∷ notWellFormed ∷ notASession ∷ editOutside ∷ listNotPermitted ∷ []) ⌝ }
+    ensures { λ r. ⌜ r ≡ (accepted ∷ noEnd ∷ unknownKind ∷ sizesMisplaced ∷ sizeOutside ∷ numberOutside ∷ notAscending ∷ tooManySteps ∷ bytesAfterEnd ∷ noListWorks ∷ overTheLimit ∷ roomTooShort ∷ notWellFormed ∷ notASession ∷ notThere ∷ listNotPermitted ∷ tooManyRuns ∷ []) ⌝ }
 {
     [
         ACCEPTED,
@@ -57,7 +59,8 @@ pub fn numbers() -> [usize; NUMBERS]
         ROOM_TOO_SHORT,
         NOT_WELL_FORMED,
         NOT_A_SESSION,
-        EDIT_OUTSIDE,
+        NOT_THERE,
         LIST_NOT_PERMITTED,
+        TOO_MANY_RUNS,
     ]
 }

@@ -4,10 +4,10 @@ use mathlib.Core.Bool.{cond, not}
 use mathlib.Core.List.{List, [], _∷_}
 use Prim.Native.Nat.{ℕ, _+_}
 use lib.Dec.{eqb, leb, ltb}
-use lib.ListN.{length, take, drop}
+use lib.ListN.{length, getD, take, drop, replicate}
 use Rattle.table.specs.Refusals.{Check, Refusal, refuseAt, firstOf, accepted, noEnd, unknownKind}
-use Rattle.taskformat.specs.Format.{isKind, bodyLength}
-use Rattle.taskformat.specs.Reading.{kindAt, nextAt, Seen, faultsAt}
+use Rattle.taskformat.specs.Format.{sizesKind, runKind, isKind, bodyLength}
+use Rattle.taskformat.specs.Reading.{kindAt, nextAt, lastRun, Seen, faultsAt}
 use Rattle.taskfile.specs.declared.record.Record.{Record}
 use Rattle.taskfile.specs.declared.seen.Known.{Known}
 
@@ -44,33 +44,37 @@ recordAt s at =
 unfoldable pub bodyOf : List ℕ → ℕ → List ℕ
 bodyOf s at = take (recordAt s at .length) (drop (recordAt s at .start) s)
 
--- The words of the inner functions. What has been seen, of what is known of it in numbers and the four arrays; the numbers alone,
--- which are all that a fault looks at; and back.
-abbrev pub seenWith : Known → List ℕ → List ℕ → List ℕ → List ℕ → Seen
-seenWith k needs adds deletes steps = record {
+-- The words of the inner functions. What has been seen, of what is known of it in numbers and the seven arrays.
+abbrev pub seenWith : Known → (needs adds deletes starts goals counts steps : List ℕ) → Seen
+seenWith k needs adds deletes starts goals counts steps = record {
   task = record {
     table = record { facts = k .facts; actions = k .actions; limit = k .limit; needs = needs; adds = adds; deletes = deletes };
-    run = record { start = k .start; goal = k .goal; count = k .count; steps = steps };
+    runs = record { many = k .runs; starts = starts; goals = goals; counts = counts; steps = steps };
   };
   kind = k .kind;
   body = k .body;
 }
 
+-- The numbers alone are all that a fault looks at: of the counts it looks at that of the last run only, so that all may be that.
 abbrev pub seenOf : Known → Seen
-seenOf k = seenWith k [] [] [] []
+seenOf k = seenWith k [] [] [] [] [] (replicate (k .runs + 1) (k .count)) []
 
-abbrev pub knownOf : Seen → Known
-knownOf seen = record {
+-- And back, where these are the counts.
+abbrev pub knownOf : Seen → List ℕ → Known
+knownOf seen counts = record {
   facts = seen .task .table .facts;
   actions = seen .task .table .actions;
   limit = seen .task .table .limit;
-  start = seen .task .run .start;
-  goal = seen .task .run .goal;
-  count = seen .task .run .count;
+  runs = seen .task .runs .many;
+  count = getD counts (lastRun (seen .task .runs)) 0;
   kind = seen .kind;
   body = seen .body;
 }
 
--- And the checks of a record behind 1, 2, 3 and 1: those of a body that is there, 4 to 7.
+-- How many runs are open after a record of this kind, where n were before.
+abbrev pub manyAfter : ℕ → ℕ → ℕ
+manyAfter kind n = cond (eqb kind sizesKind) 1 (cond (eqb kind runKind) (n + 1) n)
+
+-- And the checks of a record behind 1, 2, 3 and 1: those of a body that is there, 4, 5, 6, 16 and 7.
 unfoldable pub bodyFaults : List ℕ → ℕ → Seen → List Check
 bodyFaults s at seen = drop 4 (faultsAt s at seen)

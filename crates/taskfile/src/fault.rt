@@ -1,11 +1,13 @@
 // The first fault of the record at a place (document 01, "Refusal numbers": "within it 1 (no kind byte), 2, 3, 1 (short
-// body), 4, 5, 6, 7").
+// body), 4, 5, 6, 7"; 02, request 1: 16 "after 6 and before 7").
 use crate::kinds;
 use crate::parts;
 use crate::seen::Known;
+use crate::seen::last_run;
 use table::ACTIONS;
 use table::FACTS;
 use table::LIMIT;
+use table::RUNS;
 use table::STEPS;
 use table::refusals;
 ghost use mathlib.Core.Path.{_≡_};
@@ -46,17 +48,19 @@ fn is_outside(known: Known, kind: usize, x: usize, y: usize) -> bool
         | ((kind == kinds::STEP) & (known.actions <= x))
 }
 
-// 6: the kind goes down, by its position in a file, or the body does not ascend.
+// 6: the kind goes down, by its position in a file; a further run never does, and begins the order anew. Or a cell of the table
+// comes after it; or the body does not ascend.
 fn is_disordered(known: Known, kind: usize, body: usize) -> bool
     ensures { λ r. ⌜ r ≡ disordered (seenOf known) kind body ⌝ }
 {
-    (kinds::position(kind) < kinds::position(known.kind))
+    ((kind != kinds::RUN) & (kinds::position(kind) < kinds::position(known.kind)))
+        | (kinds::is_cell_kind(kind) & (0 < last_run(known.runs)))
         | ((kind == known.kind)
             & (kinds::is_fact_kind(kind) | kinds::is_cell_kind(kind))
             & (body <= known.body))
 }
 
-// The first of the faults that a whole body can have: 4, 5, 6, 7; 0 where it has none.
+// The first of the faults that a whole body can have: 4, 5, 6, 16, 7; 0 where it has none.
 fn body_fault(s: &[u8], at: usize, known: Known) -> usize
     ensures { λ r. ⌜ r ≡ firstOf (bodyFaults (now (s .entry)) at (seenOf known)) .number ⌝ }
 {
@@ -68,6 +72,7 @@ fn body_fault(s: &[u8], at: usize, known: Known) -> usize
     let misfit = (kind == kinds::SIZES) & sizes_wrong(x, y, z);
     let beyond = is_outside(known, kind, x, y);
     let down = is_disordered(known, kind, body);
+    let ninth = (kind == kinds::RUN) & (RUNS <= known.runs);
     let full = (kind == kinds::STEP) & (STEPS <= known.count);
     if misfit {
         return refusals::SIZE_OUTSIDE;
@@ -77,6 +82,9 @@ fn body_fault(s: &[u8], at: usize, known: Known) -> usize
     }
     if down {
         return refusals::NOT_ASCENDING;
+    }
+    if ninth {
+        return refusals::TOO_MANY_RUNS;
     }
     if full {
         return refusals::TOO_MANY_STEPS;

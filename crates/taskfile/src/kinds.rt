@@ -1,4 +1,4 @@
-// The kinds of record and the length of each kind's body (document 01, "The task file").
+// The kinds of record and the length of each kind's body (document 01, "The task file"; 02, request 1).
 ghost use mathlib.Core.Path.{_≡_};
 ghost use Rattle.taskformat.specs.Format.{isKind, positionOf, isCellKind, isFactKind, bodyLength};
 
@@ -21,17 +21,27 @@ pub const STEP: usize = 7;
 
 pub const END: usize = 8;
 
+// A further run.
+pub const RUN: usize = 9;
+
 pub fn is_kind(kind: usize) -> bool
     ensures { λ r. ⌜ r ≡ isKind kind ⌝ }
 {
-    (SIZES <= kind) & (kind <= END)
+    (SIZES <= kind) & (kind <= RUN)
 }
 
-// The position that a kind has in a file: 01 numbers the kinds as they come. What is no kind comes after them all.
+// The position that a kind has in a file: 01 numbers the kinds as they come, and a further run begins the order anew right
+// after the sizes. What is no kind comes after them all.
 pub fn position(kind: usize) -> usize
     ensures { λ r. ⌜ r ≡ positionOf kind ⌝ }
 {
-    if kind <= END { kind } else { END + 1 }
+    if kind <= SIZES {
+        return kind;
+    }
+    if kind == RUN {
+        return SIZES + 1;
+    }
+    if kind <= END { kind + 1 } else { RUN + 1 }
 }
 
 // Need, add or delete: the body is an action and a fact.
@@ -57,5 +67,5 @@ pub fn body_length(kind: usize) -> usize
     if is_cell_kind(kind) {
         return 2;
     }
-    if kind == END { 0 } else { 1 }
+    if (kind == END) | (kind == RUN) { 0 } else { 1 }
 }

@@ -1,19 +1,23 @@
-// Reading the task file (document 01, "The task file"): one pass over the records, with what they have said so far.
+// Reading the task file (document 01, "The task file"; 02, request 1): one pass over the records, with what they have said so far.
 mod fault;
 pub mod kinds;
 mod parts;
 pub mod record;
 mod seen;
+mod store;
 
 use fault::fault_at;
 use seen::Known;
 use seen::after;
+use seen::last_run;
 use seen::nothing_known;
-use seen::put_cell;
-use seen::put_step;
+use store::put_cell;
+use store::put_set;
+use store::put_step;
 use table::ACTIONS;
-use table::Run;
-use table::STEPS;
+use table::ALL_STEPS;
+use table::RUNS;
+use table::Runs;
 use table::Table;
 use table::Task;
 use table::TaskReply;
@@ -24,8 +28,8 @@ ghost use Rattle.taskformat.specs.Reading.{ReadsFile, acceptedRead, refusedRead
 ghost use Rattle.taskfile.specs.Records.{seenWith};
 
 // How much of a file the program reads: longer than any file is, so that later bytes can't alter its answer (document 01,
-// "The listing").
-pub const MOST_INPUT: usize = 20_000;
+// "The listing"; 02, request 1).
+pub const MOST_INPUT: usize = 24_000;
 
 // The code's number is the definitions'.
 pub fn longest_input() -> usize
@@ -47,11 +51,12 @@ pub fn no_task() -> Task
             adds: [0; ACTIONS],
             deletes: [0; ACTIONS],
         },
-        run: Run {
-            start: 0,
-            goal: 0,
-            count: 0,
-            steps: [0; STEPS],
+        runs: Runs {
+            many: 0,
+            starts: [0; RUNS],
+            goals: [0; RUNS],
+            counts: [0; RUNS],
+            steps: [0; ALL_STEPS],
         },
     }
 }
@@ -72,9 +77,12 @@ fn read_as(
     needs: [u64; ACTIONS],
     adds: [u64; ACTIONS],
     deletes: [u64; ACTIONS],
-    steps: [u8; STEPS],
+    starts: [u64; RUNS],
+    goals: [u64; RUNS],
+    counts: [usize; RUNS],
+    steps: [u8; ALL_STEPS],
 ) -> TaskReply
-    ensures { λ r. ⌜ r ≡ acceptedRead (seenWith known needs adds deletes steps .task) ⌝ }
+    ensures { λ r. ⌜ r ≡ acceptedRead (seenWith known needs adds deletes starts goals counts steps .task) ⌝ }
 {
     let table = Table {
         facts: known.facts,
@@ -84,16 +92,17 @@ fn read_as(
         adds,
         deletes,
     };
-    let run = Run {
-        start: known.start,
-        goal: known.goal,
-        count: known.count,
+    let runs = Runs {
+        many: known.runs,
+        starts,
+        goals,
+        counts,
         steps,
     };
     TaskReply {
         number: refusals::ACCEPTED,
         place: 0,
-        task: Task { table, run },
+        task: Task { table, runs },
     }
 }
 
@@ -105,7 +114,10 @@ pub fn read(s: &[u8]) -> TaskReply
     let mut needs = [0; ACTIONS];
     let mut adds = [0; ACTIONS];
     let mut deletes = [0; ACTIONS];
-    let mut steps = [0; STEPS];
+    let mut starts = [0; RUNS];
+    let mut goals = [0; RUNS];
+    let mut counts = [0; RUNS];
+    let mut steps = [0; ALL_STEPS];
     loop {
         let fault = fault_at(s, at, known);
         if fault.number != refusals::ACCEPTED {
@@ -117,16 +129,15 @@ pub fn read(s: &[u8]) -> TaskReply
             if start < s.len() {
                 return refused(refusals::BYTES_AFTER_END, start);
             }
-            return read_as(known, needs, adds, deletes, steps);
+            return read_as(known, needs, adds, deletes, starts, goals, counts, steps);
         }
-        let step = parts::byte_at(s, at, 0);
-        let action = parts::wide(step);
-        let fact = parts::number_at(s, at, 1);
-        put_cell(&mut needs, kind == kinds::NEED, action, fact);
-        put_cell(&mut adds, kind == kinds::ADD, action, fact);
-        put_cell(&mut deletes, kind == kinds::DELETE, action, fact);
-        put_step(&mut steps, kind == kinds::STEP, known.count, step);
-        known = after(s, at, known);
+        let x = parts::byte_at(s, at, 0);
+        let y = parts::number_at(s, at, 1);
+        let run = last_run(known.runs);
+        put_cell(&mut needs, &mut adds, &mut deletes, kind, x as usize, y);
+        put_set(&mut starts, &mut goals, kind, run, x as usize);
+        put_step(&mut counts, &mut steps, kind, run, known.count, x);
+        known = after(s, at, known, &counts);
         at = start + kinds::body_length(kind);
     }
 }

@@ -1,7 +1,7 @@
 -- An accepted file is the file of a well-formed task, and that task is what is read. Assumes nothing.
 use mathlib.Core.List.{List, [], _∷_, _++_}
 use mathlib.Core.Path.{_≡_, refl, sym, ap, ap₂, _∙_}
-use Prim.Native.Nat.{ℕ, zero, suc, _+_, _*_, _<_, _≤_}
+use Prim.Native.Nat.{ℕ, zero, suc, _+_, _<_, _≤_}
 use native.Mathlib.Nat.{add-suc}
 use native.Mathlib.Omega.{arith}
 use lib.ListN.{length, take, drop, take-append-drop, drop-of-length-le}
@@ -12,17 +12,18 @@ use Rattle.table.specs.Tasks.{WellFormed}
 use Rattle.table.specs.declared.Task.{Task}
 use Rattle.table.specs.declared.TaskReply.{TaskReply}
 use Rattle.taskformat.specs.Format.{sizesKind, endKind, isCellKind, bodyLength, fileOf}
-use Rattle.taskformat.specs.Reading.{Seen, nothingSeen, kindAt, byteAt, nextAt, tableAfter, seenAfter, faultAt, Reads, ReadsFile, faulty, good, ended, trailing}
+use Rattle.taskformat.specs.Reading.{Seen, nothingSeen, kindAt, byteAt, bodyAt, nextAt, tableAfter, seenAfter, faultAt, Reads, ReadsFile, faulty, good, ended, trailing}
 use Rattle.taskformat.proofs.Clear.{Clear, clear}
 use Rattle.table.proofs.GatherLaws.{gather-same, gather-next}
-use Rattle.taskformat.proofs.Ranks.{slots, ranks, rank, sizesRecord, pieceAt, file-by-rank, sizes-first, gather-up-to}
-use Rattle.taskformat.proofs.PositionLaws.{apart}
-use Rattle.taskformat.proofs.Families.{Family, ofNone, ofSizes, ofFact, ofCell, ofStep, family}
-use Rattle.taskformat.proofs.Fitting.{Fitted, fitted-known, slotOf, recordBytes, fact-bytes, cell-bytes, step-bytes}
+use Rattle.taskformat.proofs.Ranks.{ranks, rank, sizesRecord, pieceAt, sizes-first, gather-up-to}
+use Rattle.taskformat.proofs.Sections.{file-by-rank}
+use Rattle.taskformat.proofs.PositionLaws.{order, apart}
+use Rattle.taskformat.proofs.Families.{Family, ofNone, ofSizes, ofRun, ofFact, ofCell, ofStep, family}
+use Rattle.taskformat.proofs.Fitting.{Fitted, fitted-known, slotOf, recordRank, recordBytes, run-bytes, fact-bytes, cell-bytes, step-bytes}
 use Rattle.taskformat.proofs.OneMore.{taskAfter}
 use Rattle.taskformat.proofs.RecordsAfter.{piece-after}
-use Rattle.taskformat.proofs.Standing.{Standing, good-next}
-use Rattle.taskformat.proofs.FirstRecord.{bareTask, seen-first, stands-first, first-kind}
+use Rattle.taskformat.proofs.Standing.{Standing, lastRank, good-next}
+use Rattle.taskformat.proofs.FirstRecord.{bareTask, bare-rank, seen-first, stands-first, first-kind}
 
 -- ---- the bytes of a record
 
@@ -56,6 +57,7 @@ record-taken s at t tells = by (family (kindAt s at))
         → kindAt s at ∷ bodyBytes s at 0 (bodyLength (kindAt s at)) ≡ recordBytes (kindAt s at) (byteAt s at 0) (byteAt s at 1)
     by (ofNone out nothing) = absurd (apart (kindAt s at) endKind (tells .last) (sym (out (fitted-known tells))))
     by (ofSizes is) = absurd (apart sizesKind (kindAt s at) (tells .later) is)
+    by (ofRun is) = rw (is, run-bytes (byteAt s at 0) (byteAt s at 1))
     by (ofFact kind) = rw (kind .length, fact-bytes kind (byteAt s at 0) (byteAt s at 1))
     by (ofCell kind) = rw (kind .length, cell-bytes kind (byteAt s at 0) (byteAt s at 1))
     by (ofStep is) = rw (is, step-bytes (byteAt s at 0) (byteAt s at 1))
@@ -63,23 +65,23 @@ record-taken s at t tells = by (family (kindAt s at))
 -- ---- the records so far
 
 gather-after : (seen : Seen) (slot k x y z : ℕ) → Standing seen slot → Fitted (seen .task) k x y
-    → rank (seen .kind) slot < rank k (slotOf (seen .task) k x y)
-    → gather (pieceAt (taskAfter (seen .task) k x y z)) (suc (rank k (slotOf (seen .task) k x y))) ≡
-    gather (pieceAt (seen .task)) (suc (rank (seen .kind) slot)) ++ recordBytes k x y
+    → lastRank seen slot < recordRank (seen .task) k x y
+    → gather (pieceAt (taskAfter (seen .task) k x y z)) (suc (recordRank (seen .task) k x y)) ≡
+    gather (pieceAt (seen .task)) (suc (lastRank seen slot)) ++ recordBytes k x y
 gather-after seen slot k x y z stands tells later =
     let after = piece-after (seen .task) k x y z (stands .formed) tells in
-    let here = rank k (slotOf (seen .task) k x y) in
+    let here = recordRank (seen .task) k x y in
     gather-next (pieceAt (taskAfter (seen .task) k x y z)) here
     ∙ ap₂ _++_
     (gather-same (pieceAt (taskAfter (seen .task) k x y z)) (pieceAt (seen .task)) here (λ r l. after r ∙ rw (ne-eqb r here (omega arith)))
-    ∙ gather-up-to (pieceAt (seen .task)) (suc (rank (seen .kind) slot)) here later (λ r l. stands .above r l))
+    ∙ gather-up-to (pieceAt (seen .task)) (suc (lastRank seen slot)) here later (λ r l. stands .above r l))
     (after here ∙ rw (eq-eqb here here refl))
 
 -- What the bytes before a place are.
 pub data Sofar (s : List ℕ) : ℕ → Seen → Type 0 where
   begun : Sofar s 0 nothingSeen
   going : {at : ℕ} {seen : Seen} → (slot : ℕ) → Standing seen slot → at ≤ length s
-      → take at s ≡ gather (pieceAt (seen .task)) (suc (rank (seen .kind) slot)) → Sofar s at seen
+      → take at s ≡ gather (pieceAt (seen .task)) (suc (lastRank seen slot)) → Sofar s at seen
 
 bare-sizes : (f a l : ℕ) → sizesRecord (bareTask f a l .table) ≡ sizesKind ∷ f ∷ a ∷ l ∷ []
 unfolding bareTask taskAfter tableAfter
@@ -93,17 +95,18 @@ first-sofar s clear =
     let y = byteAt s 0 1 in
     let z = byteAt s 0 2 in
     going 0 (stands-first s clear) (clear .whole)
-    (next-taken s 0 (bodyLength (kindAt s 0)) (clear .whole) ∙ rw (seen-first s is, is) (sym (sizes-first (bareTask x y z) ∙ bare-sizes x y z)))
+    (next-taken s 0 (bodyLength (kindAt s 0)) (clear .whole) ∙ rw (seen-first s is, is)
+    (sym (ap (λ (r : ℕ). gather (pieceAt (bareTask x y z)) (suc r)) (bare-rank x y z (bodyAt s 0)) ∙ sizes-first (bareTask x y z) ∙ bare-sizes x y z)))
 
 next-sofar : (s : List ℕ) (at : ℕ) (seen : Seen) (slot : ℕ) → Standing seen slot → Clear s at seen → (kindAt s at ≡ endKind → ⊥)
-    → take at s ≡ gather (pieceAt (seen .task)) (suc (rank (seen .kind) slot)) → Sofar s (nextAt s at) (seenAfter s at seen)
+    → take at s ≡ gather (pieceAt (seen .task)) (suc (lastRank seen slot)) → Sofar s (nextAt s at) (seenAfter s at seen)
 unfolding seenAfter taskAfter
 next-sofar s at seen slot stands clear more bytes =
     let next = good-next s at seen slot stands clear more in
     going (slotOf (seen .task) (kindAt s at) (byteAt s at 0) (byteAt s at 1)) (next .stands) (clear .whole)
     (next-taken s at (bodyLength (kindAt s at)) (clear .whole)
     ∙ ap₂ _++_ bytes (record-taken s at (seen .task) (next .tells))
-    ∙ sym (gather-after seen slot (kindAt s at) (byteAt s at 0) (byteAt s at 1) (byteAt s at 2) stands (next .tells) (next .later)))
+    ∙ sym (rw (next .rank) (gather-after seen slot (kindAt s at) (byteAt s at 0) (byteAt s at 1) (byteAt s at 2) stands (next .tells) (next .later))))
 
 pub sofar-next : {s : List ℕ} {at : ℕ} {seen : Seen} → Sofar s at seen → faultAt s at seen .number ≡ 0 → (kindAt s at ≡ endKind → ⊥)
     → Sofar s (nextAt s at) (seenAfter s at seen)
@@ -125,7 +128,7 @@ file-ended {s} (going {at} {seen} slot stands fits bytes) c is last = (
   stands .formed,
   last-byte s at last
       ∙ ap₂ (λ (b : List ℕ) (k : ℕ). b ++ k ∷ [])
-      (bytes ∙ sym (gather-up-to (pieceAt (seen .task)) (suc (rank (seen .kind) slot)) ranks (omega arith) (λ r l. stands .above r l)))
+      (bytes ∙ sym (gather-up-to (pieceAt (seen .task)) (suc (lastRank seen slot)) ranks (omega (arith, order)) (λ r l. stands .above r l)))
       is
       ∙ sym (file-by-rank (seen .task) (stands .formed)),
 )

@@ -8,9 +8,10 @@ use lib.Dec.{eqb, leb}
 use lib.ListN.{length}
 use borrow.Author.Tests.{leb-false, ltb-false, not-false, lt-leb, le-ltb}
 use Rattle.table.proofs.RefusalLaws.{silent, accepts}
-use Rattle.table.specs.Sizes.{maxSteps}
-use Rattle.taskformat.specs.Format.{sizesKind, stepKind, isKind, bodyLength}
-use Rattle.taskformat.specs.Reading.{Seen, kindAt, byteAt, bodyAt, misplaced, sizesWrong, outside, disordered, faultsAt, faultAt}
+use Rattle.table.specs.Sizes.{maxRuns, maxSteps}
+use Rattle.table.specs.Tasks.{countOf}
+use Rattle.taskformat.specs.Format.{sizesKind, stepKind, runKind, isKind, bodyLength}
+use Rattle.taskformat.specs.Reading.{Seen, lastRun, kindAt, byteAt, bodyAt, misplaced, sizesWrong, outside, disordered, faultsAt, faultAt}
 
 pub record Clear (s : List ℕ) (at : ℕ) (seen : Seen) : Type 0 where
   pub begun : at < length s
@@ -20,7 +21,8 @@ pub record Clear (s : List ℕ) (at : ℕ) (seen : Seen) : Type 0 where
   pub sized : (eqb (kindAt s at) sizesKind && sizesWrong (byteAt s at 0) (byteAt s at 1) (byteAt s at 2)) ≡ false
   pub inside : outside (seen .task .table) (kindAt s at) (byteAt s at 0) (byteAt s at 1) ≡ false
   pub ordered : disordered seen (kindAt s at) (bodyAt s at) ≡ false
-  pub room : (eqb (kindAt s at) stepKind && leb maxSteps (seen .task .run .count)) ≡ false
+  pub runs : (eqb (kindAt s at) runKind && leb maxRuns (seen .task .runs .many)) ≡ false
+  pub room : (eqb (kindAt s at) stepKind && leb maxSteps (countOf (seen .task .runs) (lastRun (seen .task .runs)))) ≡ false
 
 pub clear : (s : List ℕ) (at : ℕ) (seen : Seen) → faultAt s at seen .number ≡ 0 → Clear s at seen
 unfolding faultsAt
@@ -34,7 +36,8 @@ clear s at seen e =
       sized = q .1 .1 .1 .1 .0;
       inside = q .1 .1 .1 .1 .1 .0;
       ordered = q .1 .1 .1 .1 .1 .1 .0;
-      room = q .1 .1 .1 .1 .1 .1 .1 .0;
+      runs = q .1 .1 .1 .1 .1 .1 .1 .0;
+      room = q .1 .1 .1 .1 .1 .1 .1 .1 .0;
     }
 
 pub faultless : (s : List ℕ) (at : ℕ) (seen : Seen) → Clear s at seen → faultAt s at seen .number ≡ 0
@@ -48,7 +51,7 @@ faultless s at seen c =
           c .placed,
           (
             le-ltb (length s) (at + 1 + bodyLength (kindAt s at)) (c .whole),
-            (c .sized, (c .inside, (c .ordered, (c .room, tt)))),
+            (c .sized, (c .inside, (c .ordered, (c .runs, (c .room, tt))))),
           ),
         ),
       ),

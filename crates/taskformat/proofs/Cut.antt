@@ -1,9 +1,9 @@
--- The first 20,000 bytes of any input decide what reading gives. Assumes nothing.
-use mathlib.Core.Bool.{Bool, true, false, cond}
+-- The first 24,000 bytes of any input decide what reading gives. Assumes nothing.
+use mathlib.Core.Bool.{Bool, true, false, cond, _||_}
 use mathlib.Core.List.{List}
 use mathlib.Core.Logic.{_↔_}
 use mathlib.Core.Path.{_≡_, sym, ap, _∙_, subst, subst₂}
-use Prim.Native.Nat.{ℕ, suc, _+_, _*_, _<_, _≤_}
+use Prim.Native.Nat.{ℕ, suc, _+_, _<_, _≤_}
 use native.Mathlib.Omega.{arith}
 use lib.ListN.{length, take, length-take}
 use lib.Seq.{getD-take}
@@ -11,12 +11,13 @@ use lib.Dec.{eqb, leb, ltb}
 use borrow.Author.Tests.{lt-leb, le-ltb}
 use Rattle.table.specs.Refusals.{firstOf}
 use Rattle.table.specs.declared.TaskReply.{TaskReply}
-use Rattle.taskformat.specs.Format.{sizesKind, endKind, isCellKind, bodyLength}
+use Rattle.taskformat.specs.Format.{sizesKind, endKind, runKind, isCellKind, bodyLength}
 use Rattle.taskformat.specs.Reading.{Seen, kindAt, byteAt, bodyAt, nextAt, seenAfter, placeOf, faultsAt, faultAt, Reads, ReadsFile, faulty, good, ended, trailing}
 use Rattle.taskformat.specs.Lengths.{longestFile, programRoom}
 use Rattle.taskformat.proofs.Unique.{reads-unique}
 use Rattle.taskformat.proofs.Function.{reads-total}
-use Rattle.taskformat.proofs.Ranks.{slots, rank}
+use Rattle.taskformat.proofs.PositionLaws.{order}
+use Rattle.taskformat.proofs.Standing.{lastRank}
 use Rattle.taskformat.proofs.AcceptedIsFile.{Sofar, begun, going, sofar-next}
 use Rattle.taskformat.proofs.FileLength.{records-length}
 
@@ -24,13 +25,13 @@ use Rattle.taskformat.proofs.FileLength.{records-length}
 sofar-early : {s : List ℕ} {at : ℕ} {seen : Seen} → Sofar s at seen → at < longestFile
 sofar-early begun = omega arith
 sofar-early {s} (going {at} {seen} slot stands fits bytes) =
-    let short = records-length (seen .task) (stands .formed) (suc (rank (seen .kind) slot)) (omega arith) in
+    let short = records-length (seen .task) (stands .formed) (suc (lastRank seen slot)) (omega (arith, order)) in
     let long = ap length bytes in
     let taken = length-take at s in omega arith
 
 bodies-short : (k : ℕ) → bodyLength k ≤ 3
 unfolding bodyLength
-bodies-short k = at (eqb k sizesKind) (isCellKind k) (eqb k endKind)
+bodies-short k = at (eqb k sizesKind) (isCellKind k) (eqb k endKind || eqb k runKind)
   where
     at : (b c d : Bool) → cond b 3 (cond c 2 (cond d 0 1)) ≤ 3
     at true c d = omega arith

@@ -7,14 +7,14 @@ use Prim.Native.Nat.{ℕ, zero, suc, _-_, _<_, _≤_}
 use native.Mathlib.Omega.{arith}
 use lib.Dec.{eqb}
 use borrow.Author.Tests.{le-leb, lt-leb, ne-eqb}
-use Rattle.facts.specs.Sets.{joined, only}
 use Rattle.table.specs.Repairs.{byKind}
-use Rattle.table.specs.declared.Run.{Run}
+use Rattle.table.specs.Setting.{setIn}
+use Rattle.table.specs.declared.Runs.{Runs}
 use Rattle.table.specs.declared.Task.{Task}
-use Rattle.taskformat.specs.Format.{sizesKind, startKind, goalKind, needKind, addKind, deleteKind, stepKind, endKind, isKind, isCellKind, isFactKind, bodyLength, positionOf}
-use Rattle.taskformat.specs.Reading.{runAfter}
+use Rattle.taskformat.specs.Format.{sizesKind, runKind, startKind, goalKind, needKind, addKind, deleteKind, stepKind, endKind, isKind, isCellKind, isFactKind, bodyLength, positionOf}
+use Rattle.taskformat.specs.Reading.{lastRun, runsAfter}
 use Rattle.taskformat.proofs.PositionLaws.{within-kinds, order, position-known}
-use Rattle.taskformat.proofs.Ranks.{factSet, factPiece, cellPiece, slotPiece}
+use Rattle.taskformat.proofs.Ranks.{factSets, factPiece, cellPiece, slotPiece}
 
 -- Start or goal.
 pub record FactKind (k : ℕ) : Type 0 where
@@ -24,9 +24,11 @@ pub record FactKind (k : ℕ) : Type 0 where
   pub fact : isFactKind k ≡ true
   pub not-cell : isCellKind k ≡ false
   pub not-step : eqb k stepKind ≡ false
+  pub not-run : eqb k runKind ≡ false
   pub length : bodyLength k ≡ 1
-  pub shape : (t : Task) (i : ℕ) → slotPiece t k i ≡ factPiece t k i
-  pub grown : (r : Run) (kind x : ℕ) → factSet (runAfter r kind x) k ≡ cond (eqb kind k) (joined (factSet r k) (only x)) (factSet r k)
+  pub shape : (t : Task) (i j : ℕ) → slotPiece t i k j ≡ factPiece t i k j
+  pub grown : (r : Runs) (kind x : ℕ)
+      → factSets (runsAfter r kind x) k ≡ cond (eqb kind k) (setIn (factSets r k) (lastRun r) x true) (factSets r k)
 
 -- Need, add or delete.
 pub record CellKind (k : ℕ) : Type 0 where
@@ -36,31 +38,39 @@ pub record CellKind (k : ℕ) : Type 0 where
   pub not-fact : isFactKind k ≡ false
   pub cell : isCellKind k ≡ true
   pub not-step : eqb k stepKind ≡ false
+  pub not-run : eqb k runKind ≡ false
   pub length : bodyLength k ≡ 2
-  pub shape : (t : Task) (i : ℕ) → slotPiece t k i ≡ cellPiece t k i
+  pub shape : (t : Task) (i j : ℕ) → slotPiece t i k j ≡ cellPiece t i k j
   pub mask : byKind (deleteKind - k) deleteKind addKind needKind ≡ k
 
 pub data Family (k : ℕ) : Type 0 where
-  ofNone : (isKind k ≡ true → k ≡ endKind) → ((t : Task) (i : ℕ) → slotPiece t k i ≡ []) → Family k
+  ofNone : (isKind k ≡ true → k ≡ endKind) → ((t : Task) (i j : ℕ) → slotPiece t i k j ≡ []) → Family k
   ofSizes : k ≡ sizesKind → Family k
+  ofRun : k ≡ runKind → Family k
   ofFact : FactKind k → Family k
   ofCell : CellKind k → Family k
   ofStep : k ≡ stepKind → Family k
 
--- From start to goal the tests follow from the range; which of the two it is shows in its position and in how its set grows.
+-- From start to goal the tests follow from the range; which of the two it is shows in its position and in how its sets grow.
 fact-kind : (k : ℕ) → startKind ≤ k → k ≤ goalKind → positionOf startKind ≤ positionOf k → positionOf k ≤ positionOf goalKind → isFactKind k ≡ true
-    → ((r : Run) (kind x : ℕ) → factSet (runAfter r kind x) k ≡ cond (eqb kind k) (joined (factSet r k) (only x)) (factSet r k))
+    → ((r : Runs) (kind x : ℕ) → factSets (runsAfter r kind x) k ≡ cond (eqb kind k) (setIn (factSets r k) (lastRun r) x true) (factSets r k))
     → FactKind k
 unfolding slotPiece isKind isCellKind bodyLength
 fact-kind k from up low high fact grown = record {
   low = low;
   high = high;
-  known = rw (le-leb sizesKind k (omega arith), le-leb k endKind (omega arith));
+  known = rw (le-leb sizesKind k (omega arith), le-leb k runKind (omega arith));
   fact = fact;
   not-cell = rw (lt-leb needKind k (omega arith));
   not-step = ne-eqb k stepKind (omega arith);
-  length = rw (ne-eqb k sizesKind (omega arith), lt-leb needKind k (omega arith), ne-eqb k endKind (omega arith));
-  shape = λ t i. rw (ne-eqb k sizesKind (omega arith), fact);
+  not-run = ne-eqb k runKind (omega arith);
+  length = rw (
+    ne-eqb k sizesKind (omega arith),
+    lt-leb needKind k (omega arith),
+    ne-eqb k endKind (omega arith),
+    ne-eqb k runKind (omega arith),
+  );
+  shape = λ t i j. rw (ne-eqb k sizesKind (omega arith), ne-eqb k runKind (omega arith), fact);
   grown = grown;
 }
 
@@ -70,14 +80,16 @@ unfolding slotPiece isKind isFactKind isCellKind bodyLength
 cell-kind k from up low high mask = record {
   low = low;
   high = high;
-  known = rw (le-leb sizesKind k (omega arith), le-leb k endKind (omega arith));
+  known = rw (le-leb sizesKind k (omega arith), le-leb k runKind (omega arith));
   not-fact = rw (ne-eqb k startKind (omega arith), ne-eqb k goalKind (omega arith));
   cell = rw (le-leb needKind k from, le-leb k deleteKind up);
   not-step = ne-eqb k stepKind (omega arith);
+  not-run = ne-eqb k runKind (omega arith);
   length = rw (ne-eqb k sizesKind (omega arith), le-leb needKind k from, le-leb k deleteKind up);
-  shape = λ t i.
+  shape = λ t i j.
       rw (
         ne-eqb k sizesKind (omega arith),
+        ne-eqb k runKind (omega arith),
         ne-eqb k startKind (omega arith),
         ne-eqb k goalKind (omega arith),
         le-leb needKind k from,
@@ -87,11 +99,11 @@ cell-kind k from up low high mask = record {
 }
 
 pub start-kind : FactKind startKind
-unfolding isFactKind runAfter
+unfolding isFactKind runsAfter
 start-kind = fact-kind startKind (omega arith) (omega arith) (omega (arith, order)) (omega (arith, order)) refl (λ r kind x. refl)
 
 pub goal-kind : FactKind goalKind
-unfolding isFactKind runAfter
+unfolding isFactKind runsAfter
 goal-kind = fact-kind goalKind (omega arith) (omega arith) (omega (arith, order)) (omega (arith, order)) refl (λ r kind x. refl)
 
 pub need-kind : CellKind needKind
@@ -103,11 +115,12 @@ add-kind = cell-kind addKind (omega arith) (omega arith) (omega (arith, order)) 
 pub delete-kind : CellKind deleteKind
 delete-kind = cell-kind deleteKind (omega arith) (omega arith) (omega (arith, order)) (omega (arith, order)) refl
 
-beyond : (k : ℕ) → stepKind < k → (t : Task) (i : ℕ) → slotPiece t k i ≡ []
+beyond : (k : ℕ) → runKind < k → (t : Task) (i j : ℕ) → slotPiece t i k j ≡ []
 unfolding slotPiece isFactKind isCellKind
-beyond k l t i =
+beyond k l t i j =
     rw (
       ne-eqb k sizesKind (omega arith),
+      ne-eqb k runKind (omega arith),
       ne-eqb k startKind (omega arith),
       ne-eqb k goalKind (omega arith),
       le-leb needKind k (omega arith),
@@ -115,12 +128,12 @@ beyond k l t i =
       ne-eqb k stepKind (omega arith),
     )
 
-end-kind : (k : ℕ) → stepKind < k → isKind k ≡ true → k ≡ endKind
-end-kind k l e = let range = within-kinds k e in omega arith
+no-kind : (k : ℕ) → runKind < k → isKind k ≡ true → k ≡ endKind
+no-kind k l e = let range = within-kinds k e in absurd (omega arith)
 
 pub family : (k : ℕ) → Family k
 unfolding slotPiece isKind isFactKind isCellKind
-family zero = ofNone (λ e. absurd (false≢true e)) (λ t i. refl)
+family zero = ofNone (λ e. absurd (false≢true e)) (λ t i j. refl)
 family (suc zero) = ofSizes refl
 family (suc (suc zero)) = ofFact start-kind
 family (suc (suc (suc zero))) = ofFact goal-kind
@@ -128,9 +141,11 @@ family (suc (suc (suc (suc zero)))) = ofCell need-kind
 family (suc (suc (suc (suc (suc zero))))) = ofCell add-kind
 family (suc (suc (suc (suc (suc (suc zero)))))) = ofCell delete-kind
 family (suc (suc (suc (suc (suc (suc (suc zero))))))) = ofStep refl
-family (suc (suc (suc (suc (suc (suc (suc (suc k)))))))) =
-    ofNone (end-kind (suc (suc (suc (suc (suc (suc (suc (suc k)))))))) (omega arith))
-    (beyond (suc (suc (suc (suc (suc (suc (suc (suc k)))))))) (omega arith))
+family (suc (suc (suc (suc (suc (suc (suc (suc zero)))))))) = ofNone (λ _. refl) (λ t i j. refl)
+family (suc (suc (suc (suc (suc (suc (suc (suc (suc zero))))))))) = ofRun refl
+family (suc (suc (suc (suc (suc (suc (suc (suc (suc (suc k)))))))))) =
+    ofNone (no-kind (suc (suc (suc (suc (suc (suc (suc (suc (suc (suc k)))))))))) (omega arith))
+    (beyond (suc (suc (suc (suc (suc (suc (suc (suc (suc (suc k)))))))))) (omega arith))
 
 -- Between start and delete there are only those two families.
 pub family-between : (k : ℕ) → positionOf startKind ≤ positionOf k → positionOf k ≤ positionOf deleteKind → FactKind k ⊎ CellKind k
@@ -140,6 +155,7 @@ family-between k l h = by (family k)
     by (ofNone out nothing) =
         let far = ap positionOf (out (position-known k (omega (arith, order)) (omega (arith, order)))) in absurd (omega (arith, order))
     by (ofSizes is) = let first = ap positionOf is in absurd (omega (arith, order))
+    by (ofRun is) = let first = ap positionOf is in absurd (omega (arith, order))
     by (ofFact kind) = inl kind
     by (ofCell kind) = inr kind
     by (ofStep is) = let last = ap positionOf is in absurd (omega (arith, order))

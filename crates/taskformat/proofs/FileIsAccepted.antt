@@ -2,7 +2,7 @@
 use mathlib.Core.Bool.{Bool, true, false}
 use mathlib.Core.List.{List, [], _∷_, _++_, append-assoc, append-nil}
 use mathlib.Core.Path.{_≡_, refl, sym, ap, _∙_, subst, subst₂}
-use Prim.Native.Nat.{ℕ, zero, suc, _+_, _-_, _*_, _<_, _≤_}
+use Prim.Native.Nat.{ℕ, zero, suc, _+_, _-_, _<_, _≤_}
 use native.Mathlib.Omega.{arith}
 use lib.Dec.{eqb}
 use lib.ListN.{length, getD, length-append}
@@ -15,26 +15,27 @@ use Rattle.taskformat.specs.Format.{sizesKind, endKind, isCellKind, body
 use Rattle.taskformat.specs.Reading.{Seen, nothingSeen, kindAt, byteAt, bodyAt, nextAt, seenAfter, tableAfter, acceptedRead, Reads, ReadsFile, good, ended}
 use Rattle.taskformat.proofs.Clear.{faultless}
 use Rattle.table.proofs.GatherLaws.{gather-more, gather-next}
-use Rattle.taskformat.proofs.Ranks.{slots, ranks, rank, pieceAt, file-by-rank, no-piece, first-piece, none-before, sizes-first}
+use Rattle.taskformat.proofs.Ranks.{ranks, rank, pieceAt, no-piece, first-piece, none-before, sizes-first}
+use Rattle.taskformat.proofs.Sections.{file-by-rank}
 use Rattle.taskformat.proofs.PositionLaws.{order, apart}
 use Rattle.taskformat.proofs.Fitting.{Fitted, fitted, slotOf, record-length}
 use Rattle.taskformat.proofs.OneMore.{taskAfter}
 use Rattle.taskformat.proofs.RecordsAfter.{piece-after}
 use Rattle.table.proofs.FlagLaws.{by-order}
-use Rattle.taskformat.proofs.Standing.{Standing, good-next}
-use Rattle.taskformat.proofs.FirstRecord.{bareTask, bareSeen, seen-first, stands-first}
+use Rattle.taskformat.proofs.Standing.{Standing, lastRank, good-next}
+use Rattle.taskformat.proofs.FirstRecord.{bareTask, bareSeen, bare-rank, seen-first, stands-first}
 use Rattle.taskformat.proofs.GoodRecord.{clear-later, clear-end, clear-first}
-use Rattle.taskformat.proofs.NextRecord.{Agrees, Here, Look, absent, short, long, look}
+use Rattle.taskformat.proofs.NextRecord.{Agrees, Here, Look, absent, bare, short, long, look}
 use Rattle.taskformat.proofs.SameTask.{same-task}
 
 -- After the first record.
-agrees-first : (t : Task) (b : ℕ) → Agrees t (bareSeen (t .table .facts) (t .table .actions) (t .table .limit) b) (suc (rank sizesKind 0))
+agrees-first : (t : Task) (b : ℕ) → Agrees t (bareSeen (t .table .facts) (t .table .actions) (t .table .limit) b) (suc (rank 0 sizesKind 0))
 unfolding bareTask taskAfter tableAfter
 agrees-first t b = record {
   sizes = record { facts = refl; actions = refl; limit = refl };
   pieces = λ q l.
-      by-order q (rank sizesKind 0) (λ low. no-piece bare q low ∙ sym (no-piece t q low))
-      (λ high. let is : q ≡ rank sizesKind 0 = omega arith in rw is (first-piece bare ∙ sym (first-piece t)));
+      by-order q (rank 0 sizesKind 0) (λ low. no-piece bare q low ∙ sym (no-piece t q low))
+      (λ high. let is : q ≡ rank 0 sizesKind 0 = omega arith in rw is (first-piece bare ∙ sym (first-piece t)));
 }
   where
     bare : Task
@@ -64,14 +65,14 @@ file-split t s e r l =
 module _ (t : Task) (formed : WellFormed t) (s : List ℕ) (whole : s ≡ gather (pieceAt t) ranks ++ endKind ∷ []) where
   -- Where the record of a rank stands in the file, if the task has it; and what is to be shown of that rank: from every state
   -- that holds the task's records below it, reading on accepts the task.
-  abbrev startOf : ℕ → ℕ
-  startOf r = length (gather (pieceAt t) r)
+  abbrev placeAt : ℕ → ℕ
+  placeAt r = length (gather (pieceAt t) r)
 
   abbrev From : ℕ → Type 0
-  From r = (seen : Seen) (slot : ℕ) → Standing seen slot → rank (seen .kind) slot < r → Agrees t seen r
-      → Reads s (acceptedRead t) (startOf r) seen
+  From r = (seen : Seen) (slot : ℕ) → Standing seen slot → lastRank seen slot < r → Agrees t seen r
+      → Reads s (acceptedRead t) (placeAt r) seen
 
-  agrees-absent : (seen : Seen) (slot r : ℕ) → Standing seen slot → rank (seen .kind) slot < r → Agrees t seen r → pieceAt t r ≡ []
+  agrees-absent : (seen : Seen) (slot r : ℕ) → Standing seen slot → lastRank seen slot < r → Agrees t seen r → pieceAt t r ≡ []
       → Agrees t seen (suc r)
   agrees-absent seen slot r stands later agrees none = record { sizes = agrees .sizes; pieces = λ q l. by q (eqb q r) refl l }
     where
@@ -79,13 +80,13 @@ module _ (t : Task) (formed : WellFormed t) (s : List ℕ) (whole : s ≡ gather
       by q true e l = let is = eqb-true q r e in rw is (stands .above r later ∙ sym none)
       by q false e l = let other = eqb-false q r e in agrees .pieces q (omega arith)
 
-  module _ (seen : Seen) (slot r : ℕ) (stands : Standing seen slot) (later : rank (seen .kind) slot < r) (agrees : Agrees t seen r)
-      (here : Here t seen r (kindAt s (startOf r)) (byteAt s (startOf r) 0) (byteAt s (startOf r) 1)) where
-    agrees-after : Fitted (seen .task) (kindAt s (startOf r)) (byteAt s (startOf r) 0) (byteAt s (startOf r) 1)
-        → Agrees t (seenAfter s (startOf r) seen) (suc r)
+  module _ (seen : Seen) (slot r : ℕ) (stands : Standing seen slot) (later : lastRank seen slot < r) (agrees : Agrees t seen r)
+      (here : Here t seen r (kindAt s (placeAt r)) (byteAt s (placeAt r) 0) (byteAt s (placeAt r) 1)) where
+    agrees-after : Fitted (seen .task) (kindAt s (placeAt r)) (byteAt s (placeAt r) 0) (byteAt s (placeAt r) 1)
+        → Agrees t (seenAfter s (placeAt r) seen) (suc r)
     unfolding seenAfter tableAfter taskAfter
     agrees-after tells =
-        let other : eqb (kindAt s (startOf r)) sizesKind ≡ false = ne-eqb (kindAt s (startOf r)) sizesKind (apart sizesKind (kindAt s (startOf r)) (tells .later)) in
+        let other : eqb (kindAt s (placeAt r)) sizesKind ≡ false = ne-eqb (kindAt s (placeAt r)) sizesKind (apart sizesKind (kindAt s (placeAt r)) (tells .later)) in
         record {
           sizes = record {
             facts = rw other (agrees .sizes .facts);
@@ -96,28 +97,28 @@ module _ (t : Task) (formed : WellFormed t) (s : List ℕ) (whole : s ≡ gather
         }
       where
         k : ℕ
-        k = kindAt s (startOf r)
+        k = kindAt s (placeAt r)
 
         x : ℕ
-        x = byteAt s (startOf r) 0
+        x = byteAt s (placeAt r) 0
 
         y : ℕ
-        y = byteAt s (startOf r) 1
+        y = byteAt s (placeAt r) 1
 
         pieces-after : (q : ℕ) (b : Bool) → eqb q r ≡ b → q < suc r
-            → pieceAt (taskAfter (seen .task) k x y (byteAt s (startOf r) 2)) q ≡ pieceAt t q
+            → pieceAt (taskAfter (seen .task) k x y (byteAt s (placeAt r) 2)) q ≡ pieceAt t q
         pieces-after q true e l =
-            piece-after (seen .task) k x y (byteAt s (startOf r) 2) (stands .formed) tells q
+            piece-after (seen .task) k x y (byteAt s (placeAt r) 2) (stands .formed) tells q
             ∙ rw (here .place, e) (here .bytes ∙ ap (pieceAt t) (sym (eqb-true q r e)))
         pieces-after q false e l =
             let far = eqb-false q r e in
-            piece-after (seen .task) k x y (byteAt s (startOf r) 2) (stands .formed) tells q
+            piece-after (seen .task) k x y (byteAt s (placeAt r) 2) (stands .formed) tells q
             ∙ rw (here .place, e) (agrees .pieces q (omega arith))
 
-    read-here : r < ranks → From (suc r) → Reads s (acceptedRead t) (startOf r) seen
+    read-here : r < ranks → From (suc r) → Reads s (acceptedRead t) (placeAt r) seen
     unfolding seenAfter
     read-here l more =
-        let at = startOf r in
+        let at = placeAt r in
         let k = kindAt s at in
         let x = byteAt s at 0 in
         let y = byteAt s at 1 in
@@ -131,7 +132,7 @@ module _ (t : Task) (formed : WellFormed t) (s : List ℕ) (whole : s ≡ gather
         let not-end : k ≡ endKind → ⊥ = λ is. apart k endKind (tells .last) (sym is) in
         let next = good-next s at seen slot stands clear not-end in
         let sum = ap length (gather-next (pieceAt t) r) ∙ length-append (gather (pieceAt t) r) (pieceAt t r) in
-        let next-place : startOf (suc r) ≡ nextAt s at = omega arith in
+        let next-place : placeAt (suc r) ≡ nextAt s at = omega arith in
         good {at = at} {seen = seen} (faultless s at seen clear) not-end
         (subst (λ (m : ℕ). Reads s (acceptedRead t) m (seenAfter s at seen)) next-place
         (more (seenAfter s at seen) (slotOf (seen .task) k x y) (next .stands) (omega arith) (agrees-after tells)))
@@ -139,32 +140,36 @@ module _ (t : Task) (formed : WellFormed t) (s : List ℕ) (whole : s ≡ gather
   step : (r : ℕ) → r < ranks → From (suc r) → From r
   step r l more seen slot stands later agrees = by (look t formed seen slot r stands later agrees)
     where
-      by : Look t seen r → Reads s (acceptedRead t) (startOf r) seen
+      by : Look t seen r → Reads s (acceptedRead t) (placeAt r) seen
       by (absent none) =
           let nothing-more : gather (pieceAt t) (suc r) ≡ gather (pieceAt t) r =
           gather-next (pieceAt t) r ∙ rw none (append-nil (gather (pieceAt t) r)) in
-          let same : startOf (suc r) ≡ startOf r = ap length nothing-more in
+          let same : placeAt (suc r) ≡ placeAt r = ap length nothing-more in
           subst (λ (m : ℕ). Reads s (acceptedRead t) m seen) same
           (more seen slot stands (omega arith) (agrees-absent seen slot r stands later agrees none))
+      by (bare k is here) =
+          let split : s ≡ gather (pieceAt t) r ++ k ∷ rest-of t r = rw is at (file-split t s whole r l) in
+          let kind = byte-of s (gather (pieceAt t) r) (k ∷ rest-of t r) (placeAt r) 0 split (omega arith) in
+          read-here seen slot r stands later agrees (rw kind (here (byteAt s (placeAt r) 0) (byteAt s (placeAt r) 1))) l more
       by (short k x is here) =
           let split : s ≡ gather (pieceAt t) r ++ k ∷ x ∷ rest-of t r = rw is at (file-split t s whole r l) in
-          let kind = byte-of s (gather (pieceAt t) r) (k ∷ x ∷ rest-of t r) (startOf r) 0 split (omega arith) in
-          let first = byte-of s (gather (pieceAt t) r) (k ∷ x ∷ rest-of t r) (startOf r + 1 + 0) 1 split (omega arith) in
-          read-here seen slot r stands later agrees (rw (kind, first) (here (byteAt s (startOf r) 1))) l more
+          let kind = byte-of s (gather (pieceAt t) r) (k ∷ x ∷ rest-of t r) (placeAt r) 0 split (omega arith) in
+          let first = byte-of s (gather (pieceAt t) r) (k ∷ x ∷ rest-of t r) (placeAt r + 1 + 0) 1 split (omega arith) in
+          read-here seen slot r stands later agrees (rw (kind, first) (here (byteAt s (placeAt r) 1))) l more
       by (long k x y is here) =
           let split : s ≡ gather (pieceAt t) r ++ k ∷ x ∷ y ∷ rest-of t r = rw is at (file-split t s whole r l) in
-          let kind = byte-of s (gather (pieceAt t) r) (k ∷ x ∷ y ∷ rest-of t r) (startOf r) 0 split (omega arith) in
-          let first = byte-of s (gather (pieceAt t) r) (k ∷ x ∷ y ∷ rest-of t r) (startOf r + 1 + 0) 1 split (omega arith) in
-          let second = byte-of s (gather (pieceAt t) r) (k ∷ x ∷ y ∷ rest-of t r) (startOf r + 1 + 1) 2 split (omega arith) in
+          let kind = byte-of s (gather (pieceAt t) r) (k ∷ x ∷ y ∷ rest-of t r) (placeAt r) 0 split (omega arith) in
+          let first = byte-of s (gather (pieceAt t) r) (k ∷ x ∷ y ∷ rest-of t r) (placeAt r + 1 + 0) 1 split (omega arith) in
+          let second = byte-of s (gather (pieceAt t) r) (k ∷ x ∷ y ∷ rest-of t r) (placeAt r + 1 + 1) 2 split (omega arith) in
           read-here seen slot r stands later agrees (rw (kind, first, second) here) l more
 
   at-end : (r : ℕ) → r ≡ ranks → From r
   at-end r all seen slot stands later agrees =
       let same = same-task (seen .task) t (stands .formed) formed (agrees .sizes) (λ q l. agrees .pieces q (omega arith)) in
       let split : s ≡ gather (pieceAt t) r ++ endKind ∷ [] = rw all whole in
-      let is = byte-of s (gather (pieceAt t) r) (endKind ∷ []) (startOf r) 0 split (omega arith) in
+      let is = byte-of s (gather (pieceAt t) r) (endKind ∷ []) (placeAt r) 0 split (omega arith) in
       let last = ap length split ∙ length-append (gather (pieceAt t) r) (endKind ∷ []) in
-      ended {at = startOf r} {seen = seen} (faultless s (startOf r) seen (clear-end s (startOf r) seen slot stands is (omega arith))) is (omega arith)
+      ended {at = placeAt r} {seen = seen} (faultless s (placeAt r) seen (clear-end s (placeAt r) seen slot stands is (omega arith))) is (omega arith)
       (ap acceptedRead (sym same))
 
   from-rank : (n r : ℕ) → r + n ≡ ranks → From r
@@ -173,8 +178,8 @@ module _ (t : Task) (formed : WellFormed t) (s : List ℕ) (whole : s ≡ gather
 
   -- ---- the first record
 
-  sizes-at : s ≡ sizesKind ∷ t .table .facts ∷ t .table .actions ∷ t .table .limit ∷ rest-of t (rank sizesKind 0)
-  sizes-at = rw (none-before t, first-piece t) at (file-split t s whole (rank sizesKind 0) (omega (arith, order)))
+  sizes-at : s ≡ sizesKind ∷ t .table .facts ∷ t .table .actions ∷ t .table .limit ∷ rest-of t (rank 0 sizesKind 0)
+  sizes-at = rw (none-before t, first-piece t) at (file-split t s whole (rank 0 sizesKind 0) (omega (arith, order)))
 
   from-start : ReadsFile s (acceptedRead t)
   unfolding bodyLength isCellKind
@@ -187,11 +192,11 @@ module _ (t : Task) (formed : WellFormed t) (s : List ℕ) (whole : s ≡ gather
       let first = bareSeen (t .table .facts) (t .table .actions) (t .table .limit) (bodyAt s 0) in
       let sees : seenAfter s 0 nothingSeen ≡ first = rw (← x, ← y, ← z) (seen-first s is) in
       let clear = clear-first t formed s is x y z four in
-      let next : startOf (suc (rank sizesKind 0)) ≡ nextAt s 0 = rw is (ap length (sizes-first t)) in
-      let rest = from-rank (ranks - suc (rank sizesKind 0)) (suc (rank sizesKind 0)) (omega (arith, order)) in
+      let next : placeAt (suc (rank 0 sizesKind 0)) ≡ nextAt s 0 = rw is (ap length (sizes-first t)) in
+      let rest = from-rank (ranks - suc (rank 0 sizesKind 0)) (suc (rank 0 sizesKind 0)) (omega (arith, order)) in
       good {at = 0} {seen = nothingSeen} (faultless s 0 nothingSeen clear) (λ e. omega arith)
       (subst₂ (Reads s (acceptedRead t)) next (sym sees)
-      (rest first 0 (subst (λ (seen : Seen). Standing seen 0) sees (stands-first s clear)) (omega arith) (agrees-first t (bodyAt s 0))))
+      (rest first 0 (subst (λ (seen : Seen). Standing seen 0) sees (stands-first s clear)) (omega (arith, bare-rank (t .table .facts) (t .table .actions) (t .table .limit) (bodyAt s 0))) (agrees-first t (bodyAt s 0))))
 
 -- The file of a well-formed task is accepted, and that task is read: demand 2's first sentence, the other way.
 pub file-accepted : (t : Task) → WellFormed t → ReadsFile (fileOf t) (acceptedRead t)

@@ -4,10 +4,15 @@ pub mod Unique
 pub mod Function
 pub mod Clear
 pub mod Ranks
+pub mod Sections
 pub mod Families
 pub mod Fitting
+mod Grown
+pub mod RunsAfter
 pub mod OneMore
+pub mod SetsAfter
 pub mod RecordsAfter
+pub mod GoodFits
 pub mod Standing
 pub mod FirstRecord
 pub mod AcceptedIsFile

@@ -1,5 +1,5 @@
 -- A well-formed task is known by its sizes and its records. Assumes nothing.
-use mathlib.Core.Bool.{Bool, true, false}
+use mathlib.Core.Bool.{Bool, true, false, _&&_, and-true}
 use mathlib.Core.List.{List, [], _∷_}
 use mathlib.Core.Path.{_≡_, refl, sym, ap, _∙_}
 use Prim.Native.Nat.{ℕ, _+_, _-_, _*_, _/_, _%_, _<_, _≤_}
@@ -12,12 +12,13 @@ use Rattle.facts.specs.Sets.{has}
 use Rattle.facts.proofs.Laws.{same-sets}
 use Rattle.table.proofs.FlagLaws.{by-order}
 use Rattle.table.specs.Lists.{piece}
-use Rattle.table.specs.Tasks.{WellFormed}
+use Rattle.table.specs.Sizes.{maxRuns, maxSteps}
+use Rattle.table.specs.Tasks.{countOf, stepOf, WellFormed}
 use Rattle.table.specs.declared.Table.{Table}
 use Rattle.table.specs.declared.Task.{Task}
-use Rattle.taskformat.specs.Format.{startKind, goalKind, needKind, addKind, deleteKind, stepKind, endKind, isKind, isFactKind, isCellKind, positionOf}
+use Rattle.taskformat.specs.Format.{runKind, startKind, goalKind, needKind, addKind, deleteKind, stepKind, endKind, isKind, isFactKind, isCellKind, positionOf}
 use Rattle.taskformat.specs.Reading.{byteRoom}
-use Rattle.taskformat.proofs.Ranks.{slots, ranks, rank, factSet, cellMask, factPiece, cellPiece, stepPiece, slotPiece, pieceAt, at-rank, some-step}
+use Rattle.taskformat.proofs.Ranks.{slots, ranks, rank, factSet, cellMask, runPiece, factPiece, cellPiece, stepPiece, slotPiece, pieceAt, at-rank, some-step}
 use Rattle.taskformat.proofs.PositionLaws.{order}
 use Rattle.taskformat.proofs.Families.{FactKind, CellKind, start-kind, goal-kind, need-kind, add-kind, delete-kind}
 
@@ -34,16 +35,25 @@ same-test false false n l m e = refl
 same-test true false n l m e = let longer = ap length e in absurd (omega arith)
 same-test false true n l m e = let longer = ap length e in absurd (omega arith)
 
+-- Two numbers with the same numbers below them are one.
+same-number : (m n b : ℕ) → m ≤ b → n ≤ b → ((i : ℕ) → i < b → ltb i m ≡ ltb i n) → m ≡ n
+same-number m n b l h same =
+    by-order m n
+    (λ less. let here = ltb-true m m (same m (omega arith) ∙ lt-ltb m n less) in absurd (omega arith))
+    (λ most.
+    by-order n m (λ less. let here = ltb-true n n (sym (same n (omega arith)) ∙ lt-ltb n m less) in absurd (omega arith)) (λ also. omega arith))
+
 module _ (t q : Task) (formed : WellFormed t) (formed′ : WellFormed q) (sizes : SameSizes (t .table) (q .table))
     (same : (r : ℕ) → r < ranks → pieceAt t r ≡ pieceAt q r) where
-  same-slots : (k i : ℕ) → isKind k ≡ true → positionOf k < positionOf endKind → i < slots → slotPiece t k i ≡ slotPiece q k i
-  same-slots k i known l h = sym (at-rank t k i known h) ∙ same (rank k i) (omega arith) ∙ at-rank q k i known h
+  same-slots : (i k j : ℕ) → i < maxRuns → isKind k ≡ true → positionOf k < positionOf endKind → j < slots
+      → slotPiece t i k j ≡ slotPiece q i k j
+  same-slots i k j few known l h = sym (at-rank t i k j known l h) ∙ same (rank i k j) (omega (arith, order)) ∙ at-rank q i k j known l h
 
-  same-facts : (k f : ℕ) → FactKind k → f < slots → has (factSet (t .run) k) f ≡ has (factSet (q .run) k) f
+  same-facts : (i k f : ℕ) → i < maxRuns → FactKind k → f < slots → has (factSet (t .runs) k i) f ≡ has (factSet (q .runs) k i) f
   unfolding factPiece
-  same-facts k f kind l =
-      same-test (has (factSet (t .run) k) f) (has (factSet (q .run) k) f) k (f ∷ []) (f ∷ [])
-      (sym (kind .shape t f) ∙ same-slots k f (kind .known) (omega (arith, order)) l ∙ kind .shape q f)
+  same-facts i k f few kind l =
+      same-test (has (factSet (t .runs) k i) f) (has (factSet (q .runs) k i) f) k (f ∷ []) (f ∷ [])
+      (sym (kind .shape t i f) ∙ same-slots i k f few (kind .known) (omega (arith, order)) l ∙ kind .shape q i f)
 
   same-cells : (k a f : ℕ) → CellKind k → a < t .table .actions → f < t .table .facts
       → has (cellMask (t .table) k a) f ≡ has (cellMask (q .table) k a) f
@@ -51,28 +61,32 @@ module _ (t q : Task) (formed : WellFormed t) (formed′ : WellFormed q) (sizes 
   same-cells k a f kind l h =
       let few = formed .actions-high in
       let most = formed .facts-high in
-      let i = byteRoom * a + f in
-      let action : i / byteRoom ≡ a = omega arith in
-      let fact : i % byteRoom ≡ f = omega arith in
+      let j = byteRoom * a + f in
+      let action : j / byteRoom ≡ a = omega arith in
+      let fact : j % byteRoom ≡ f = omega arith in
       let there =
-      same-test (has (cellMask (t .table) k (i / byteRoom)) (i % byteRoom)) (has (cellMask (q .table) k (i / byteRoom)) (i % byteRoom)) k
-      (i / byteRoom ∷ i % byteRoom ∷ []) (i / byteRoom ∷ i % byteRoom ∷ [])
-      (sym (kind .shape t i) ∙ same-slots k i (kind .known) (omega (arith, order)) (omega arith) ∙ kind .shape q i) in
+      same-test (has (cellMask (t .table) k (j / byteRoom)) (j % byteRoom)) (has (cellMask (q .table) k (j / byteRoom)) (j % byteRoom)) k
+      (j / byteRoom ∷ j % byteRoom ∷ []) (j / byteRoom ∷ j % byteRoom ∷ [])
+      (sym (kind .shape t 0 j) ∙ same-slots 0 k j (omega arith) (kind .known) (omega (arith, order)) (omega arith) ∙ kind .shape q 0 j) in
       rw (action, fact) at there
 
-  same-steps : (i : ℕ) → i < slots → stepPiece t i ≡ stepPiece q i
+  same-steps : (i j : ℕ) → i < maxRuns → j < slots → stepPiece t i j ≡ stepPiece q i j
   unfolding slotPiece isKind isFactKind isCellKind
-  same-steps i l = same-slots stepKind i refl (order .end) l
+  same-steps i j few l = same-slots i stepKind j few refl (order .end) l
+
+  same-runs : (i : ℕ) → i < maxRuns → runPiece t i 0 ≡ runPiece q i 0
+  unfolding slotPiece isKind
+  same-runs i few = same-slots i runKind 0 few refl (omega (arith, order)) (omega arith)
 
   -- ---- the sets
 
-  same-set : (k : ℕ) → FactKind k → ((f : ℕ) → t .table .facts ≤ f → has (factSet (t .run) k) f ≡ false)
-      → ((f : ℕ) → q .table .facts ≤ f → has (factSet (q .run) k) f ≡ false) → factSet (t .run) k ≡ factSet (q .run) k
-  same-set k kind inside inside′ =
-      same-sets (factSet (t .run) k) (factSet (q .run) k)
+  same-set : (k i : ℕ) → FactKind k → ((i f : ℕ) → t .table .facts ≤ f → has (factSet (t .runs) k i) f ≡ false)
+      → ((i f : ℕ) → q .table .facts ≤ f → has (factSet (q .runs) k i) f ≡ false) → i < maxRuns → factSet (t .runs) k i ≡ factSet (q .runs) k i
+  same-set k i kind inside inside′ few =
+      same-sets (factSet (t .runs) k i) (factSet (q .runs) k i)
       (λ f.
-      by-order f (t .table .facts) (λ l. let most = formed .facts-high in same-facts k f kind (omega arith))
-      (λ l. let size = sizes .facts in inside f l ∙ sym (inside′ f (omega arith))))
+      by-order f (t .table .facts) (λ l. let most = formed .facts-high in same-facts i k f few kind (omega arith))
+      (λ l. let size = sizes .facts in inside i f l ∙ sym (inside′ i f (omega arith))))
 
   same-mask : (k a : ℕ) → CellKind k → cellMask (t .table) k a ≡ cellMask (q .table) k a
   same-mask k a kind =
@@ -88,37 +102,38 @@ module _ (t q : Task) (formed : WellFormed t) (formed′ : WellFormed q) (sizes 
       let size = sizes .actions in
       formed .actions-unused (deleteKind - k) a l ∙ sym (formed′ .actions-unused (deleteKind - k) a (omega arith)))
 
-  -- ---- the steps
+  -- ---- the runs
 
-  same-tests : (i : ℕ) → i < slots → ltb i (t .run .count) ≡ ltb i (q .run .count)
+  same-opened : (i : ℕ) → i < maxRuns → 0 < i → ltb i (t .runs .many) ≡ ltb i (q .runs .many)
+  unfolding runPiece
+  same-opened i few low =
+      let tests = same-test (ltb 0 i && ltb i (t .runs .many) && true) (ltb 0 i && ltb i (q .runs .many) && true) runKind [] [] (same-runs i few) in
+      rw (lt-ltb 0 i low, and-true (ltb i (t .runs .many)), and-true (ltb i (q .runs .many))) at tests
+
+  same-many : t .runs .many ≡ q .runs .many
+  same-many = same-number (t .runs .many) (q .runs .many) maxRuns (formed .many-high) (formed′ .many-high) tests
+    where
+      tests : (i : ℕ) → i < maxRuns → ltb i (t .runs .many) ≡ ltb i (q .runs .many)
+      tests i few =
+          by-order 0 i (same-opened i few)
+          (λ first. lt-ltb i (t .runs .many) (omega (arith, formed .many-low)) ∙ sym (lt-ltb i (q .runs .many) (omega (arith, formed′ .many-low))))
+
+  same-count : (i : ℕ) → i < maxRuns → countOf (t .runs) i ≡ countOf (q .runs) i
   unfolding stepPiece
-  same-tests i l =
-      same-test (ltb i (t .run .count)) (ltb i (q .run .count)) stepKind (getD (t .run .steps) i 0 ∷ []) (getD (q .run .steps) i 0 ∷ [])
-      (same-steps i l)
+  same-count i few =
+      let most = formed .count-high i in
+      let most′ = formed′ .count-high i in
+      same-number (countOf (t .runs) i) (countOf (q .runs) i) slots (omega arith) (omega arith)
+      (λ j l.
+      same-test (ltb j (countOf (t .runs) i)) (ltb j (countOf (q .runs) i)) stepKind (stepOf (t .runs) i j ∷ []) (stepOf (q .runs) i j ∷ [])
+      (same-steps i j few l))
 
-  same-count : t .run .count ≡ q .run .count
-  same-count =
-      let most = formed .count-high in
-      let most′ = formed′ .count-high in
-      by-order (t .run .count) (q .run .count)
-      (λ l.
-      let n = t .run .count in
-      let less = ltb-true n n (same-tests n (omega arith) ∙ lt-ltb n (q .run .count) l) in absurd (omega arith))
-      (λ h.
-      by-order (q .run .count) (t .run .count)
-      (λ l.
-      let n = q .run .count in
-      let less = ltb-true n n (sym (same-tests n (omega arith)) ∙ lt-ltb n (t .run .count) l) in absurd (omega arith))
-      (λ l. omega arith))
-
-  same-step : (i : ℕ) → getD (t .run .steps) i 0 ≡ getD (q .run .steps) i 0
-  same-step i =
-      let count = same-count in
-      by-order i (t .run .count)
-      (λ l.
-      let most = formed .count-high in
-      ap (λ (b : List ℕ). getD b 1 0) (sym (some-step t i l) ∙ same-steps i (omega arith) ∙ some-step q i (omega arith)))
-      (λ l. formed .steps-unused i l ∙ sym (formed′ .steps-unused i (omega arith)))
+  same-step : (i j : ℕ) → i < maxRuns → j < maxSteps → stepOf (t .runs) i j ≡ stepOf (q .runs) i j
+  same-step i j few small =
+      let count = same-count i few in
+      by-order j (countOf (t .runs) i)
+      (λ l. ap (λ (b : List ℕ). getD b 1 0) (sym (some-step t i j l) ∙ same-steps i j few (omega arith) ∙ some-step q i j (omega arith)))
+      (λ l. formed .steps-unused i j l small ∙ sym (formed′ .steps-unused i j (omega arith) small))
 
   pub same-task : t ≡ q
   same-task = λ i. record {
@@ -130,12 +145,7 @@ module _ (t q : Task) (formed : WellFormed t) (formed′ : WellFormed q) (sizes 
       adds = same-adds i;
       deletes = same-deletes i;
     };
-    run = record {
-      start = same-set startKind start-kind (formed .start-inside) (formed′ .start-inside) i;
-      goal = same-set goalKind goal-kind (formed .goal-inside) (formed′ .goal-inside) i;
-      count = same-count i;
-      steps = same-run i;
-    };
+    runs = record { many = same-many i; starts = same-starts i; goals = same-goals i; counts = same-counts i; steps = all-steps i };
   }
     where
       same-needs : t .table .needs ≡ q .table .needs
@@ -153,7 +163,24 @@ module _ (t q : Task) (formed : WellFormed t) (formed′ : WellFormed q) (sizes 
           ext-getD 0 (t .table .deletes) (q .table .deletes) (formed .shaped .deletes ∙ sym (formed′ .shaped .deletes))
           (λ a _. same-mask deleteKind a delete-kind)
 
-      same-run : t .run .steps ≡ q .run .steps
-      same-run =
-          ext-getD 0 (t .run .steps) (q .run .steps) (formed .shaped .steps ∙ sym (formed′ .shaped .steps))
-          (λ i _. same-step i)
+      same-starts : t .runs .starts ≡ q .runs .starts
+      same-starts =
+          ext-getD 0 (t .runs .starts) (q .runs .starts) (formed .shaped .starts ∙ sym (formed′ .shaped .starts))
+          (λ i l. same-set startKind i start-kind (formed .start-inside) (formed′ .start-inside) (omega (arith, formed .shaped .starts)))
+
+      same-goals : t .runs .goals ≡ q .runs .goals
+      same-goals =
+          ext-getD 0 (t .runs .goals) (q .runs .goals) (formed .shaped .goals ∙ sym (formed′ .shaped .goals))
+          (λ i l. same-set goalKind i goal-kind (formed .goal-inside) (formed′ .goal-inside) (omega (arith, formed .shaped .goals)))
+
+      same-counts : t .runs .counts ≡ q .runs .counts
+      same-counts =
+          ext-getD 0 (t .runs .counts) (q .runs .counts) (formed .shaped .counts ∙ sym (formed′ .shaped .counts))
+          (λ i l. same-count i (omega (arith, formed .shaped .counts)))
+
+      all-steps : t .runs .steps ≡ q .runs .steps
+      all-steps =
+          ext-getD 0 (t .runs .steps) (q .runs .steps) (formed .shaped .steps ∙ sym (formed′ .shaped .steps))
+          (λ p l.
+          let place : p ≡ maxSteps * (p / maxSteps) + p % maxSteps = omega arith in
+          rw place (same-step (p / maxSteps) (p % maxSteps) (omega (arith, formed .shaped .steps)) (omega arith)))

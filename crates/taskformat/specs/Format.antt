@@ -1,16 +1,18 @@
--- The file of a task, as a plain function from tasks to bytes: document 01, "The task file".
+-- The file of a task, as a plain function from tasks to bytes: document 01, "The task file"; 02, request 1.
 use mathlib.Core.Bool.{Bool, cond, _||_, _&&_}
 use mathlib.Core.List.{List, [], _∷_, _++_}
-use Prim.Native.Nat.{ℕ, suc}
+use Prim.Native.Nat.{ℕ, suc, _-_}
 use lib.Dec.{eqb, leb}
 use lib.ListN.{getD}
 use Rattle.facts.specs.Sets.{has}
 use Rattle.table.specs.Lists.{gather, piece}
+use Rattle.table.specs.Tasks.{startOf, goalOf, countOf, stepOf}
 use Rattle.table.specs.declared.Task.{Task}
-use Rattle.table.specs.declared.Run.{Run}
+use Rattle.table.specs.declared.Runs.{Runs}
 
 -- The kinds of record, and the bytes of each kind's body:
--- 1 F, A, L; 2 start fact; 3 goal fact; 4, 5, 6 need, add, delete with action and fact; 7 next step; 8 end.
+-- 1 F, A, L; 2 start fact; 3 goal fact; 4, 5, 6 need, add, delete with action and fact; 7 next step; 8 end;
+-- 9 a further run (02, request 1).
 abbrev pub sizesKind : ℕ
 sizesKind = 1
 
@@ -35,13 +37,17 @@ stepKind = 7
 abbrev pub endKind : ℕ
 endKind = 8
 
+abbrev pub runKind : ℕ
+runKind = 9
+
 -- No record yet.
 abbrev pub noKind : ℕ
 noKind = 0
 
--- "Kinds never go down": the kinds in the order that a file has them, which is this list and not that of their numbers.
+-- "Kinds never go down": the kinds in the order that a file has them, which is this list and not that of their numbers. Each further run
+-- begins the order anew, with its kind 9: "after it come kinds 2, 3 and 7 for that run in the usual order" (02, request 1).
 unfoldable pub fileOrder : List ℕ
-fileOrder = noKind ∷ sizesKind ∷ startKind ∷ goalKind ∷ needKind ∷ addKind ∷ deleteKind ∷ stepKind ∷ endKind ∷ []
+fileOrder = noKind ∷ sizesKind ∷ runKind ∷ startKind ∷ goalKind ∷ needKind ∷ addKind ∷ deleteKind ∷ stepKind ∷ endKind ∷ []
 
 -- The first place of a number in a list; the list's length where it has none.
 unfoldable pub firstPlace : List ℕ → ℕ → ℕ
@@ -56,7 +62,7 @@ unfoldable pub kindIn : ℕ → ℕ
 kindIn p = getD fileOrder p noKind
 
 unfoldable pub isKind : ℕ → Bool
-isKind k = leb sizesKind k && leb k endKind
+isKind k = leb sizesKind k && leb k runKind
 
 -- Need, add or delete: a cell of the table, with an action and a fact.
 unfoldable pub isCellKind : ℕ → Bool
@@ -67,7 +73,7 @@ unfoldable pub isFactKind : ℕ → Bool
 isFactKind k = eqb k startKind || eqb k goalKind
 
 unfoldable pub bodyLength : ℕ → ℕ
-bodyLength k = cond (eqb k sizesKind) 3 (cond (isCellKind k) 2 (cond (eqb k endKind) 0 1))
+bodyLength k = cond (eqb k sizesKind) 3 (cond (isCellKind k) 2 (cond (eqb k endKind || eqb k runKind) 0 1))
 
 -- One record for each fact below F that is in the set, ascending.
 unfoldable pub factRecords : ℕ → ℕ → ℕ → List ℕ
@@ -78,17 +84,26 @@ unfoldable pub cellRecords : ℕ → ℕ → ℕ → List ℕ → List ℕ
 cellRecords kind facts actions sets =
     gather (λ a. gather (λ f. piece (has (getD sets a 0) f) (kind ∷ a ∷ f ∷ [])) facts) actions
 
-unfoldable pub stepRecords : Run → List ℕ
-stepRecords r = gather (λ i. stepKind ∷ getD (r .steps) i 0 ∷ []) (r .count)
+-- One record for each step of run i.
+unfoldable pub stepRecords : Runs → ℕ → List ℕ
+stepRecords r i = gather (λ j. stepKind ∷ stepOf r i j ∷ []) (countOf r i)
 
--- "Kinds never go down", and the end is the last byte.
+-- The start and goal facts of run i.
+unfoldable pub setRecords : Task → ℕ → List ℕ
+setRecords t i = factRecords startKind (t .table .facts) (startOf (t .runs) i) ++ factRecords goalKind (t .table .facts) (goalOf (t .runs) i)
+
+-- "Kind 9, with no body, opens a further run; after it come kinds 2, 3 and 7 for that run" (02, request 1).
+unfoldable pub furtherRun : Task → ℕ → List ℕ
+furtherRun t i = (runKind ∷ []) ++ setRecords t i ++ stepRecords (t .runs) i
+
+-- The sizes and the table with the first run, the further runs, and the end, which is the last byte.
 unfoldable pub fileOf : Task → List ℕ
 fileOf t =
     (sizesKind ∷ t .table .facts ∷ t .table .actions ∷ t .table .limit ∷ []) ++
-    factRecords startKind (t .table .facts) (t .run .start) ++
-    factRecords goalKind (t .table .facts) (t .run .goal) ++
+    setRecords t 0 ++
     cellRecords needKind (t .table .facts) (t .table .actions) (t .table .needs) ++
     cellRecords addKind (t .table .facts) (t .table .actions) (t .table .adds) ++
     cellRecords deleteKind (t .table .facts) (t .table .actions) (t .table .deletes) ++
-    stepRecords (t .run) ++
+    stepRecords (t .runs) 0 ++
+    gather (λ i. furtherRun t (suc i)) (t .runs .many - 1) ++
     (endKind ∷ [])

@@ -1,27 +1,32 @@
 -- What reading a file gives, for every byte string: document 01, "The task file" and "Refusal numbers".
 -- "Order in a file: the first faulty record; within it 1 (no kind byte), 2, 3, 1 (short body), 4, 5, 6, 7; 8 after a good end."
+-- 02, request 1: 16 "after 6 and before 7".
 use mathlib.Core.Bool.{Bool, true, cond, not, _||_, _&&_}
 use mathlib.Core.List.{List, [], _∷_}
 use mathlib.Core.Path.{_≡_}
-use Prim.Native.Nat.{ℕ, _+_, _*_, _<_}
+use Prim.Native.Nat.{ℕ, _+_, _-_, _*_, _<_}
 use lib.Dec.{eqb, leb, ltb}
 use lib.ListN.{length, getD, set, replicate}
-use Rattle.facts.specs.Sets.{joined, only}
-use Rattle.table.specs.Refusals.{Check, Refusal, refuseAt, firstOf, accepted, noEnd, unknownKind, sizesMisplaced, sizeOutside, numberOutside, notAscending, tooManySteps, bytesAfterEnd}
+use Rattle.table.specs.Refusals.{Check, Refusal, refuseAt, firstOf, accepted, noEnd, unknownKind, sizesMisplaced, sizeOutside, numberOutside, notAscending, tooManyRuns, tooManySteps, bytesAfterEnd}
 use Rattle.table.specs.Setting.{setIn}
-use Rattle.table.specs.Sizes.{maxFacts, maxActions, maxSteps, maxLimit}
+use Rattle.table.specs.Sizes.{maxFacts, maxActions, maxRuns, maxSteps, allSteps, maxLimit}
+use Rattle.table.specs.Tasks.{countOf}
 use Rattle.table.specs.declared.Task.{Task}
 use Rattle.table.specs.declared.Table.{Table}
-use Rattle.table.specs.declared.Run.{Run}
+use Rattle.table.specs.declared.Runs.{Runs}
 use Rattle.table.specs.declared.TaskReply.{TaskReply}
-use Rattle.taskformat.specs.Format.{sizesKind, startKind, goalKind, needKind, addKind, deleteKind, stepKind, endKind, isKind, isCellKind, isFactKind, bodyLength, noKind, positionOf}
+use Rattle.taskformat.specs.Format.{sizesKind, startKind, goalKind, needKind, addKind, deleteKind, stepKind, endKind, runKind, isKind, isCellKind, isFactKind, bodyLength, noKind, positionOf}
 
 -- A task of zeros: what a refused read returns.
 abbrev pub noTask : Task
 noTask = record {
   table = record { facts = 0; actions = 0; limit = 0; needs = replicate maxActions 0; adds = replicate maxActions 0; deletes = replicate maxActions 0 };
-  run = record { start = 0; goal = 0; count = 0; steps = replicate maxSteps 0 };
+  runs = record { many = 0; starts = replicate maxRuns 0; goals = replicate maxRuns 0; counts = replicate maxRuns 0; steps = replicate allSteps 0 };
 }
+
+-- The run that was opened last: the first by the sizes, each further one by its kind 9.
+abbrev pub lastRun : Runs → ℕ
+lastRun r = r .many - 1
 
 -- What the records so far have said: the task, and the last record's kind and body.
 pub record Seen : Type 0 where
@@ -62,10 +67,12 @@ outside t kind x y =
     (isCellKind kind && (leb (t .actions) x || leb (t .facts) y)) ||
     (eqb kind stepKind && leb (t .actions) x)
 
--- 6: "kind goes down, or body doesn't ascend" (within each of kinds 2 to 6)
+-- 6: "kind goes down, or body doesn't ascend" (within each of kinds 2 to 6). Kind 9 begins the order anew, and "Kinds 4 to 6 after a kind 9
+-- get 6" (02, request 1).
 unfoldable pub disordered : Seen → ℕ → ℕ → Bool
 disordered seen kind body =
-    ltb (positionOf kind) (positionOf (seen .kind)) ||
+    (not (eqb kind runKind) && ltb (positionOf kind) (positionOf (seen .kind))) ||
+    (isCellKind kind && ltb 0 (lastRun (seen .task .runs))) ||
     (eqb kind (seen .kind) && (isFactKind kind || isCellKind kind) && leb body (seen .body))
 
 -- The place of each refusal of the record at a place: "the record's start"; 0 where there is none. (8 is of no record: `trailing`.)
@@ -82,7 +89,8 @@ faultsAt s at seen =
     fault (eqb kind sizesKind && sizesWrong (byteAt s at 0) (byteAt s at 1) (byteAt s at 2)) sizeOutside ∷
     fault (outside (seen .task .table) kind (byteAt s at 0) (byteAt s at 1)) numberOutside ∷
     fault (disordered seen kind (bodyAt s at)) notAscending ∷
-    fault (eqb kind stepKind && leb maxSteps (seen .task .run .count)) tooManySteps ∷ []
+    fault (eqb kind runKind && leb maxRuns (seen .task .runs .many)) tooManyRuns ∷
+    fault (eqb kind stepKind && leb maxSteps (countOf (seen .task .runs) (lastRun (seen .task .runs)))) tooManySteps ∷ []
   where
     kind : ℕ
     kind = kindAt s at
@@ -101,12 +109,14 @@ tableAfter t kind x y z = record {
   deletes = cond (eqb kind deleteKind) (setIn (t .deletes) x y true) (t .deletes);
 }
 
-unfoldable pub runAfter : Run → ℕ → ℕ → Run
-runAfter r kind x = record {
-  start = cond (eqb kind startKind) (joined (r .start) (only x)) (r .start);
-  goal = cond (eqb kind goalKind) (joined (r .goal) (only x)) (r .goal);
-  count = cond (eqb kind stepKind) (r .count + 1) (r .count);
-  steps = cond (eqb kind stepKind) (set (r .steps) (r .count) x) (r .steps);
+-- A start fact, a goal fact and a step are of the run that was opened last.
+unfoldable pub runsAfter : Runs → ℕ → ℕ → Runs
+runsAfter r kind x = record {
+  many = cond (eqb kind sizesKind) 1 (cond (eqb kind runKind) (r .many + 1) (r .many));
+  starts = cond (eqb kind startKind) (setIn (r .starts) (lastRun r) x true) (r .starts);
+  goals = cond (eqb kind goalKind) (setIn (r .goals) (lastRun r) x true) (r .goals);
+  counts = cond (eqb kind stepKind) (set (r .counts) (lastRun r) (countOf r (lastRun r) + 1)) (r .counts);
+  steps = cond (eqb kind stepKind) (set (r .steps) (maxSteps * lastRun r + countOf r (lastRun r)) x) (r .steps);
 }
 
 -- What is seen after the record at a place, and the next place.
@@ -114,7 +124,7 @@ unfoldable pub seenAfter : List ℕ → ℕ → Seen → Seen
 seenAfter s at seen = record {
   task = record {
     table = tableAfter (seen .task .table) (kindAt s at) (byteAt s at 0) (byteAt s at 1) (byteAt s at 2);
-    run = runAfter (seen .task .run) (kindAt s at) (byteAt s at 0);
+    runs = runsAfter (seen .task .runs) (kindAt s at) (byteAt s at 0);
   };
   kind = kindAt s at;
   body = bodyAt s at;

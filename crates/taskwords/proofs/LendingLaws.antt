@@ -12,7 +12,7 @@ use Rattle.room.specs.Placing.{Placed}
 use Rattle.table.specs.Refusals.{accepted}
 use Rattle.table.specs.Tasks.{Shaped, formed}
 use Rattle.table.specs.declared.Task.{Task}
-use Rattle.taskwords.specs.Words.{taskWords, taskIn, tableOut, runOut, taskOut, lentBack}
+use Rattle.taskwords.specs.Words.{taskWords, taskIn, tableOut, runsOut, taskOut, lentBack}
 use Rattle.taskwords.proofs.RoundTrip.{other-length}
 use Rattle.taskwords.proofs.WordLaws.{task-length}
 
@@ -24,15 +24,15 @@ module _ (ws : List ℕ) (number : ℕ) (t : Task) where
 
   -- An accepted one has filled all of them.
   pub lent-back-filled : {after : List ℕ} {next : ℕ} → number ≡ accepted → length ws ≡ taskWords → Shaped t
-      → Placed ws after 0 next (tableOut (t .table) ++ runOut (t .run)) → after ≡ lentBack ws number t
+      → Placed ws after 0 next (tableOut (t .table) ++ runsOut (t .runs)) → after ≡ lentBack ws number t
   unfolding lentBack taskOut
   lent-back-filled h whole s p =
       let full = task-length t s in
       rw (eq-eqb number accepted h)
       (placed-whole p (omega arith) ∙
-      ap (λ l. taskOut t ++ l) (drop-of-length-le ws {i = length (tableOut (t .table) ++ runOut (t .run))} (omega arith)) ∙ append-nil (taskOut t))
+      ap (λ l. taskOut t ++ l) (drop-of-length-le ws {i = length (tableOut (t .table) ++ runsOut (t .runs))} (omega arith)) ∙ append-nil (taskOut t))
 
--- Only 166 words are a well-formed task.
+-- Only 636 words are a well-formed task.
 pub formed-length : (ws : List ℕ) → formed (taskIn ws) ≡ true → length ws ≡ taskWords
 formed-length ws h = pick (eqb (length ws) taskWords) refl
   where

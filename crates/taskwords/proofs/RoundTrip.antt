@@ -9,10 +9,10 @@ use borrow.Author.Tests.{eq-eqb, ne-eqb, ltb-false}
 use lib.Dec.{ltb}
 use lib.ListN.{length, getD, take, drop, length-append, length-map, List·getD-map, take-append-drop, length-drop}
 use lib.Seq.{ext-getD, take-at, drop-at, getD-at, drop-drop, drop-cons, take-all}
-use Rattle.table.specs.Sizes.{maxActions, maxSteps}
+use Rattle.table.specs.Sizes.{maxActions, maxRuns, allSteps}
 use Rattle.table.specs.Tasks.{Shaped, formed, sizesFormed}
 use Rattle.table.specs.declared.Task.{Task}
-use Rattle.taskwords.specs.Words.{stepIn, lastStep, taskWords, tableWords, masksAt, unpacked, taskIn, tableOut, runOut, taskOut}
+use Rattle.taskwords.specs.Words.{stepIn, lastStep, taskWords, tableWords, startsAt, goalsAt, countsAt, stepsAt, masksAt, ofRunsAt, unpacked, taskIn, tableOut, runsOut, taskOut}
 use Rattle.taskwords.proofs.WordLaws.{task-length}
 
 -- A step that fits a byte is itself.
@@ -30,14 +30,20 @@ steps-same l narrow =
     ext-getD 0 (map stepIn l) l (length-map l stepIn)
     (λ i below. step-mapped l i ∙ step-tested (getD l i 0) (ltb (getD l i 0) lastStep) refl (narrow i))
 
--- The words of a task with its parts side by side.
+-- The words of the runs, and of a task, with their parts side by side.
+abbrev runs-flat : Task → List ℕ
+runs-flat t = t .runs .many ∷ (t .runs .starts ++ (t .runs .goals ++ (t .runs .counts ++ t .runs .steps)))
+
+side-by-side : (a b c d e : List ℕ) → a ++ b ++ c ++ d ++ e ≡ a ++ (b ++ (c ++ (d ++ e)))
+side-by-side a b c d e = simp append-assoc
+
 flat : (t : Task) → taskOut t ≡
     (t .table .facts ∷ t .table .actions ∷ t .table .limit ∷ []) ++
-    (t .table .needs ++
-    (t .table .adds ++
-    (t .table .deletes ++ ((t .run .start ∷ t .run .goal ∷ t .run .count ∷ []) ++ t .run .steps))))
-unfolding taskOut tableOut runOut
-flat t = simp append-assoc
+    (t .table .needs ++ (t .table .adds ++ (t .table .deletes ++ runs-flat t)))
+unfolding taskOut tableOut runsOut
+flat t =
+    ap (λ l. tableOut (t .table) ++ l) (side-by-side (t .runs .many ∷ []) (t .runs .starts) (t .runs .goals) (t .runs .counts) (t .runs .steps)) ∙
+    side-by-side (t .table .facts ∷ t .table .actions ∷ t .table .limit ∷ []) (t .table .needs) (t .table .adds) (t .table .deletes) (runs-flat t)
 
 -- A part that stands in the middle of the words is found at its place.
 regroup : {ws : List ℕ} (p b c : List ℕ) → ws ≡ p ++ (b ++ c) → ws ≡ (p ++ b) ++ c
@@ -54,18 +60,27 @@ module _ (t : Task) (s : Shaped t) where
   abbrev head : List ℕ
   head = t .table .facts ∷ t .table .actions ∷ t .table .limit ∷ []
 
-  abbrev middle : List ℕ
-  middle = t .run .start ∷ t .run .goal ∷ t .run .count ∷ []
-
-  -- What stands before the adds, the deletes, the start and the steps.
+  -- What stands before the adds, the deletes, the runs, and the starts, the goals, the counts and the steps of these.
   abbrev to-adds : List ℕ
   to-adds = head ++ t .table .needs
 
   abbrev to-deletes : List ℕ
   to-deletes = to-adds ++ t .table .adds
 
-  abbrev to-run : List ℕ
-  to-run = to-deletes ++ t .table .deletes
+  abbrev to-runs : List ℕ
+  to-runs = to-deletes ++ t .table .deletes
+
+  abbrev to-starts : List ℕ
+  to-starts = to-runs ++ (t .runs .many ∷ [])
+
+  abbrev to-goals : List ℕ
+  to-goals = to-starts ++ t .runs .starts
+
+  abbrev to-counts : List ℕ
+  to-counts = to-goals ++ t .runs .goals
+
+  abbrev to-steps : List ℕ
+  to-steps = to-counts ++ t .runs .counts
 
   before-adds : length to-adds ≡ 3 + maxActions
   before-adds = omega (arith, length-append head (t .table .needs), s .needs)
@@ -73,37 +88,49 @@ module _ (t : Task) (s : Shaped t) where
   before-deletes : length to-deletes ≡ 3 + 2 * maxActions
   before-deletes = omega (arith, length-append to-adds (t .table .adds), s .adds, before-adds)
 
-  before-run : length to-run ≡ tableWords
-  before-run = omega (arith, length-append to-deletes (t .table .deletes), s .deletes, before-deletes)
+  before-runs : length to-runs ≡ tableWords
+  before-runs = omega (arith, length-append to-deletes (t .table .deletes), s .deletes, before-deletes)
 
-  at-adds : taskOut t ≡ to-adds ++ (t .table .adds ++ (t .table .deletes ++ (middle ++ t .run .steps)))
-  at-adds = regroup head (t .table .needs) (t .table .adds ++ (t .table .deletes ++ (middle ++ t .run .steps))) (flat t)
+  before-starts : length to-starts ≡ startsAt
+  before-starts = omega (arith, length-append to-runs (t .runs .many ∷ []), before-runs)
 
-  at-deletes : taskOut t ≡ to-deletes ++ (t .table .deletes ++ (middle ++ t .run .steps))
-  at-deletes = regroup to-adds (t .table .adds) (t .table .deletes ++ (middle ++ t .run .steps)) at-adds
+  before-goals : length to-goals ≡ goalsAt
+  before-goals = omega (arith, length-append to-starts (t .runs .starts), s .starts, before-starts)
 
-  at-run : taskOut t ≡ to-run ++ (middle ++ t .run .steps)
-  at-run = regroup to-deletes (t .table .deletes) (middle ++ t .run .steps) at-deletes
+  before-counts : length to-counts ≡ countsAt
+  before-counts = omega (arith, length-append to-goals (t .runs .goals), s .goals, before-goals)
 
-  at-goal : taskOut t ≡ (to-run ++ (t .run .start ∷ [])) ++ (t .run .goal ∷ t .run .count ∷ t .run .steps)
-  at-goal = regroup to-run (t .run .start ∷ []) (t .run .goal ∷ t .run .count ∷ t .run .steps) at-run
+  before-steps : length to-steps ≡ stepsAt
+  before-steps = omega (arith, length-append to-counts (t .runs .counts), s .counts, before-counts)
 
-  at-count : taskOut t ≡ (to-run ++ (t .run .start ∷ t .run .goal ∷ [])) ++ (t .run .count ∷ t .run .steps)
-  at-count = regroup to-run (t .run .start ∷ t .run .goal ∷ []) (t .run .count ∷ t .run .steps) at-run
+  at-adds : taskOut t ≡ to-adds ++ (t .table .adds ++ (t .table .deletes ++ runs-flat t))
+  at-adds = regroup head (t .table .needs) (t .table .adds ++ (t .table .deletes ++ runs-flat t)) (flat t)
 
-  at-steps : taskOut t ≡ (to-run ++ middle) ++ t .run .steps
-  at-steps = regroup to-run middle (t .run .steps) at-run
+  at-deletes : taskOut t ≡ to-deletes ++ (t .table .deletes ++ runs-flat t)
+  at-deletes = regroup to-adds (t .table .adds) (t .table .deletes ++ runs-flat t) at-adds
 
-  past : (more : List ℕ) (k : ℕ) → length more ≡ k → length (to-run ++ more) ≡ tableWords + k
-  past more k e = omega (arith, length-append to-run more, before-run)
+  at-runs : taskOut t ≡ to-runs ++ runs-flat t
+  at-runs = regroup to-deletes (t .table .deletes) (runs-flat t) at-deletes
 
-  steps-back : take maxSteps (drop (tableWords + 3) (taskOut t)) ≡ t .run .steps
+  at-starts : taskOut t ≡ to-starts ++ (t .runs .starts ++ (t .runs .goals ++ (t .runs .counts ++ t .runs .steps)))
+  at-starts = regroup to-runs (t .runs .many ∷ []) (t .runs .starts ++ (t .runs .goals ++ (t .runs .counts ++ t .runs .steps))) at-runs
+
+  at-goals : taskOut t ≡ to-goals ++ (t .runs .goals ++ (t .runs .counts ++ t .runs .steps))
+  at-goals = regroup to-starts (t .runs .starts) (t .runs .goals ++ (t .runs .counts ++ t .runs .steps)) at-starts
+
+  at-counts : taskOut t ≡ to-counts ++ (t .runs .counts ++ t .runs .steps)
+  at-counts = regroup to-goals (t .runs .goals) (t .runs .counts ++ t .runs .steps) at-goals
+
+  at-steps : taskOut t ≡ to-steps ++ t .runs .steps
+  at-steps = regroup to-counts (t .runs .counts) (t .runs .steps) at-counts
+
+  steps-back : take allSteps (drop stepsAt (taskOut t)) ≡ t .runs .steps
   steps-back =
-      rw (at-steps, drop-at (to-run ++ middle) (t .run .steps) (tableWords + 3) (past middle 3 refl))
-      (take-all maxSteps (t .run .steps) (omega (arith, s .steps)))
+      rw (at-steps, drop-at to-steps (t .runs .steps) stepsAt before-steps)
+      (take-all allSteps (t .runs .steps) (omega (arith, s .steps)))
 
   -- Packing and unpacking: every task of the code is shaped, and its steps are bytes.
-  pub unpack-pack : ((i : ℕ) → getD (t .run .steps) i 0 ≤ lastStep) → taskIn (taskOut t) ≡ t
+  pub unpack-pack : ((i : ℕ) → getD (t .runs .steps) i 0 ≤ lastStep) → taskIn (taskOut t) ≡ t
   unfolding taskIn
   unpack-pack narrow =
       rw (
@@ -114,12 +141,12 @@ module _ (t : Task) (s : Shaped t) where
         part-of head (t .table .needs) _ 3 maxActions (flat t) refl (s .needs),
         part-of to-adds (t .table .adds) _ (3 + maxActions) maxActions at-adds before-adds (s .adds),
         part-of to-deletes (t .table .deletes) _ (3 + 2 * maxActions) maxActions at-deletes before-deletes (s .deletes),
-        word-of to-run (t .run .start) _ tableWords at-run before-run,
-        word-of (to-run ++ (t .run .start ∷ [])) (t .run .goal) _ (tableWords + 1) at-goal (past (t .run .start ∷ []) 1 refl),
-        word-of (to-run ++ (t .run .start ∷ t .run .goal ∷ [])) (t .run .count) _ (tableWords + 2) at-count
-            (past (t .run .start ∷ t .run .goal ∷ []) 2 refl),
+        word-of to-runs (t .runs .many) _ tableWords at-runs before-runs,
+        part-of to-starts (t .runs .starts) _ startsAt maxRuns at-starts before-starts (s .starts),
+        part-of to-goals (t .runs .goals) _ goalsAt maxRuns at-goals before-goals (s .goals),
+        part-of to-counts (t .runs .counts) _ countsAt maxRuns at-counts before-counts (s .counts),
         steps-back,
-        steps-same (t .run .steps) narrow,
+        steps-same (t .runs .steps) narrow,
       )
 
 -- The words from a place on, as one word and the rest, and as one part and the rest.
@@ -129,23 +156,26 @@ word-off ws at h = rw add-one (sym (drop-cons ws at 0 h))
 part-off : (ws : List ℕ) (at n : ℕ) → take n (drop at ws) ++ drop (at + n) ws ≡ drop at ws
 part-off ws at n = ap (λ l. take n (drop at ws) ++ l) (sym (drop-drop n at ws)) ∙ take-append-drop n (drop at ws)
 
--- Another number of words than 166 is no well-formed task.
+-- Another number of words than 636 is no well-formed task.
 pub other-length : (ws : List ℕ) → (length ws ≡ taskWords → ⊥) → formed (taskIn ws) ≡ false
 unfolding taskIn formed sizesFormed
 other-length ws h = rw (ne-eqb (length ws) taskWords h)
 
--- Unpacking and packing: of 166 words whose steps fit a byte.
+-- Unpacking and packing: of 636 words whose steps fit a byte.
 module _ (ws : List ℕ) (h : length ws ≡ taskWords) where
-  run-off : ((i : ℕ) → getD (take maxSteps (drop (tableWords + 3) ws)) i 0 ≤ lastStep)
-      → (unpacked ws .run .start ∷ unpacked ws .run .goal ∷ unpacked ws .run .count ∷ []) ++ unpacked ws .run .steps ≡ drop tableWords ws
-  run-off narrow =
-      ap (λ l. getD ws tableWords 0 ∷ getD ws (tableWords + 1) 0 ∷ getD ws (tableWords + 2) 0 ∷ l)
-      (steps-same (take maxSteps (drop (tableWords + 3) ws)) narrow ∙
-      take-all maxSteps (drop (tableWords + 3) ws) (omega (arith, length-drop (tableWords + 3) ws))) ∙
-      ap (λ l. getD ws tableWords 0 ∷ getD ws (tableWords + 1) 0 ∷ l) (word-off ws (tableWords + 2) (omega arith)) ∙
-      ap (λ l. getD ws tableWords 0 ∷ l) (word-off ws (tableWords + 1) (omega arith)) ∙ word-off ws tableWords (omega arith)
+  runs-off : ((i : ℕ) → getD (take allSteps (drop stepsAt ws)) i 0 ≤ lastStep) → runs-flat (unpacked ws) ≡ drop tableWords ws
+  runs-off narrow =
+      ap (λ l. getD ws tableWords 0 ∷ l)
+      (ap (λ l. ofRunsAt ws startsAt ++ l)
+      (ap (λ l. ofRunsAt ws goalsAt ++ l)
+      (ap (λ l. ofRunsAt ws countsAt ++ l)
+      (steps-same (take allSteps (drop stepsAt ws)) narrow ∙ take-all allSteps (drop stepsAt ws) (omega (arith, length-drop stepsAt ws))) ∙
+      part-off ws countsAt maxRuns) ∙
+      part-off ws goalsAt maxRuns) ∙
+      part-off ws startsAt maxRuns) ∙
+      word-off ws tableWords (omega arith)
 
-  pub pack-unpack : ((i : ℕ) → getD (take maxSteps (drop (tableWords + 3) ws)) i 0 ≤ lastStep) → taskOut (taskIn ws) ≡ ws
+  pub pack-unpack : ((i : ℕ) → getD (take allSteps (drop stepsAt ws)) i 0 ≤ lastStep) → taskOut (taskIn ws) ≡ ws
   unfolding taskIn
   pack-unpack narrow =
       rw (eq-eqb (length ws) taskWords h)
@@ -153,7 +183,7 @@ module _ (ws : List ℕ) (h : length ws ≡ taskWords) where
       ap (λ l. (getD ws 0 0 ∷ getD ws 1 0 ∷ getD ws 2 0 ∷ []) ++ l)
       (ap (λ l. masksAt ws 3 ++ l)
       (ap (λ l. masksAt ws (3 + maxActions) ++ l)
-      (ap (λ l. masksAt ws (3 + 2 * maxActions) ++ l) (run-off narrow) ∙ part-off ws (3 + 2 * maxActions) maxActions) ∙
+      (ap (λ l. masksAt ws (3 + 2 * maxActions) ++ l) (runs-off narrow) ∙ part-off ws (3 + 2 * maxActions) maxActions) ∙
       part-off ws (3 + maxActions) maxActions) ∙
       part-off ws 3 maxActions) ∙
       ap (λ l. getD ws 0 0 ∷ getD ws 1 0 ∷ l) (word-off ws 2 (omega arith)) ∙ ap (λ l. getD ws 0 0 ∷ l) (word-off ws 1 (omega arith)) ∙

@@ -4,11 +4,12 @@ use mathlib.Core.Path.{_≡_}
 use Prim.Native.Nat.{ℕ, _+_, _<_, _≤_}
 use lib.ListN.{length, getD, drop}
 use Rattle.runcheck.specs.declared.Checked.{Checked}
+use Rattle.table.specs.Sizes.{allSteps}
 use Rattle.table.specs.declared.Reply.{Reply}
 use Rattle.table.specs.declared.Task.{Task}
 use Rattle.taskfile.specs.declared.record.Record.{Record}
 use Rattle.room.specs.Placing.{placed}
-use Rattle.taskwords.specs.Words.{taskWords, tableOut, runOut}
+use Rattle.taskwords.specs.Words.{taskWords, tableOut, runsOut}
 
 -- The boundary's own number, outside the papers' (01's and 02's end at 23): the answer's room is too short, and nothing was called.
 -- So 11 is always the inner call's, about the room that it was lent, in 01's order.
@@ -44,7 +45,13 @@ abbrev pub recordWords : Record → List ℕ
 recordWords y = y .number ∷ y .place ∷ y .kind ∷ y .start ∷ y .length ∷ y .next ∷ []
 
 abbrev pub taskAnswer : ℕ → ℕ → Task → List ℕ
-taskAnswer number place t = (number ∷ place ∷ []) ++ tableOut (t .table) ++ runOut (t .run)
+taskAnswer number place t = (number ∷ place ∷ []) ++ tableOut (t .table) ++ runsOut (t .runs)
+
+-- So many of the steps of all runs have room from a place on: all, or those up to the room's end.
+pub record Fitting (room at count : ℕ) : Type 0 where
+  pub some : count ≤ allSteps
+  pub inside : 0 < count → at + count ≤ room
+  pub rest : count < allSteps → room ≤ at + count
 
 -- The n words placed from the first on, as far as the room goes, and the number returned.
 pub record Given (n : ℕ) (words before after : List ℕ) (r : ℕ) : Type 0 where

@@ -2,10 +2,10 @@
 // changed task into the words that it was lent in. Past the room a word is only counted, so that none of these functions
 // asks anything of the answer's room.
 use runcheck::Checked;
-use table::ACTIONS;
+use table::ALL_STEPS;
+use table::RUNS;
 use table::Reply;
-use table::Run;
-use table::STEPS;
+use table::Runs;
 use table::Table;
 use table::Task;
 use table::refusals::ACCEPTED;
@@ -15,10 +15,10 @@ ghost use mathlib.Core.Path.{_≡_};
 ghost use Prim.Native.Nat.{_+_, _<_, _≤_};
 ghost use lib.ListN.{length};
 ghost use Rattle.table.specs.Refusals.{accepted};
-ghost use Rattle.table.specs.Sizes.{maxActions, maxSteps};
+ghost use Rattle.table.specs.Sizes.{maxRuns, allSteps};
 ghost use Rattle.room.specs.Placing.{lastPlace, Placed};
-ghost use Rattle.taskwords.specs.Words.{tableOut, runOut, tableWords, runWords, taskWords, lentBack};
-ghost use Rattle.taskwords.specs.Answers.{answerMost, changedLength, replyLength, checkedLength, recordLength, Given, changedWords, checkedWords, recordWords, replyWords, taskAnswer};
+ghost use Rattle.taskwords.specs.Words.{tableOut, runsOut, tableWords, runsWords, taskWords, lentBack};
+ghost use Rattle.taskwords.specs.Answers.{Fitting, answerMost, changedLength, replyLength, checkedLength, recordLength, Given, changedWords, checkedWords, recordWords, replyWords, taskAnswer};
 
 fn put(answer: &mut [u64], at: usize, word: u64) -> usize
     requires { ⌜ at < lastPlace ⌝ }
@@ -47,13 +47,24 @@ fn put_three(answer: &mut [u64], at: usize, x: u64, y: u64, z: u64) -> usize
     put(answer, next, z)
 }
 
-fn put_masks(answer: &mut [u64], at: usize, masks: [u64; ACTIONS]) -> usize
-    requires { ⌜ at + maxActions ≤ lastPlace ⌝ }
-    ensures { λ r. ⌜ Placed (now (answer .entry)) (now (answer .exit)) at r masks ⌝ }
+fn put_masks(answer: &mut [u64], at: usize, masks: &[u64]) -> usize
+    requires { ⌜ at + length (now masks) ≤ lastPlace ⌝ }
+    ensures { λ r. ⌜ Placed (now (answer .entry)) (now (answer .exit)) at r (now (masks .entry)) ⌝ }
 {
     let mut next = at;
-    for a in 0..ACTIONS {
-        next = put(answer, next, masks[a]);
+    for i in 0..masks.len() {
+        next = put(answer, next, masks[i]);
+    }
+    next
+}
+
+fn put_counts(answer: &mut [u64], at: usize, counts: [usize; RUNS]) -> usize
+    requires { ⌜ at + maxRuns ≤ lastPlace ⌝ }
+    ensures { λ r. ⌜ Placed (now (answer .entry)) (now (answer .exit)) at r counts ⌝ }
+{
+    let mut next = at;
+    for i in 0..RUNS {
+        next = put(answer, next, counts[i] as u64);
     }
     next
 }
@@ -64,15 +75,28 @@ fn wide(step: u8) -> u64
     step as u64
 }
 
-fn put_steps(answer: &mut [u64], at: usize, steps: [u8; STEPS]) -> usize
-    requires { ⌜ at + maxSteps ≤ lastPlace ⌝ }
+// How many of the steps the room has words for, from a place on.
+fn fitting(room: usize, at: usize) -> usize
+    requires { ⌜ at + allSteps ≤ lastPlace ⌝ }
+    ensures { λ r. ⌜ Fitting room at r ⌝ }
+{
+    if at + ALL_STEPS <= room {
+        return ALL_STEPS;
+    }
+    if at < room { room - at } else { 0 }
+}
+
+// The steps of all runs are most of a task's words: which of them fit is asked once and not at each, so that the compiler takes
+// several at a time.
+fn put_steps(answer: &mut [u64], at: usize, steps: [u8; ALL_STEPS]) -> usize
+    requires { ⌜ at + allSteps ≤ lastPlace ⌝ }
     ensures { λ r. ⌜ Placed (now (answer .entry)) (now (answer .exit)) at r steps ⌝ }
 {
-    let mut next = at;
-    for i in 0..STEPS {
-        next = put(answer, next, wide(steps[i]));
+    let count = fitting(answer.len(), at);
+    for i in 0..count {
+        answer[at + i] = wide(steps[i]);
     }
-    next
+    at + ALL_STEPS
 }
 
 fn put_table(answer: &mut [u64], at: usize, t: Table) -> usize
@@ -83,17 +107,23 @@ fn put_table(answer: &mut [u64], at: usize, t: Table) -> usize
     let adds = t.adds;
     let deletes = t.deletes;
     let next = put_three(answer, at, t.facts as u64, t.actions as u64, t.limit as u64);
-    let next = put_masks(answer, next, needs);
-    let next = put_masks(answer, next, adds);
-    put_masks(answer, next, deletes)
+    let next = put_masks(answer, next, &needs);
+    let next = put_masks(answer, next, &adds);
+    put_masks(answer, next, &deletes)
 }
 
-fn put_run(answer: &mut [u64], at: usize, run: Run) -> usize
-    requires { ⌜ at + runWords ≤ lastPlace ⌝ }
-    ensures { λ r. ⌜ Placed (now (answer .entry)) (now (answer .exit)) at r (runOut run) ⌝ }
+fn put_runs(answer: &mut [u64], at: usize, runs: Runs) -> usize
+    requires { ⌜ at + runsWords ≤ lastPlace ⌝ }
+    ensures { λ r. ⌜ Placed (now (answer .entry)) (now (answer .exit)) at r (runsOut runs) ⌝ }
 {
-    let steps = run.steps;
-    let next = put_three(answer, at, run.start, run.goal, run.count as u64);
+    let starts = runs.starts;
+    let goals = runs.goals;
+    let counts = runs.counts;
+    let steps = runs.steps;
+    let next = put(answer, at, runs.many as u64);
+    let next = put_masks(answer, next, &starts);
+    let next = put_masks(answer, next, &goals);
+    let next = put_counts(answer, next, counts);
     put_steps(answer, next, steps)
 }
 
@@ -106,9 +136,9 @@ pub fn give_back(number: usize, changed: Task, task: &mut [u64])
         return;
     }
     let table = changed.table;
-    let run = changed.run;
+    let runs = changed.runs;
     let next = put_table(task, 0, table);
-    put_run(task, next, run);
+    put_runs(task, next, runs);
 }
 
 // Each of these answers with the number again, for the caller to return.
@@ -123,10 +153,10 @@ pub fn give_task(number: usize, place: usize, task: Task, answer: &mut [u64]) ->
     ensures { λ r. ⌜ Given answerMost (taskAnswer number place task) (now (answer .entry)) (now (answer .exit)) r ⌝ }
 {
     let table = task.table;
-    let run = task.run;
+    let runs = task.runs;
     let next = put_two(answer, 0, number as u64, place as u64);
     let next = put_table(answer, next, table);
-    put_run(answer, next, run);
+    put_runs(answer, next, runs);
     number
 }
 

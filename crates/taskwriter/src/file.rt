@@ -2,20 +2,21 @@
 use crate::kinds::ADD;
 use crate::kinds::DELETE;
 use crate::kinds::END;
-use crate::kinds::GOAL;
 use crate::kinds::NEED;
 use crate::kinds::SIZES;
-use crate::kinds::START;
 use crate::records::cell_records;
-use crate::records::fact_records;
+use crate::records::run_records;
+use crate::records::set_records;
 use crate::records::step_records;
 use room::put;
 use room::put_word;
 use table::Task;
+ghost use Prim.Native.Nat.{_+_, _≤_};
+ghost use lib.ListN.{length};
 ghost use Rattle.table.specs.Tasks.{WellFormed};
-ghost use Rattle.room.specs.Placing.{Placed};
+ghost use Rattle.room.specs.Placing.{lastPlace, Placed};
 ghost use Rattle.taskformat.specs.Format.{fileOf};
-ghost use Rattle.taskwriter.specs.Pieces.{sizesOf, throughGoals, throughCells};
+ghost use Rattle.taskwriter.specs.Pieces.{sizesOf, throughGoals, throughCells, furtherRuns};
 
 fn sizes(task: Task, room: &mut [u8]) -> usize
     requires { ⌜ WellFormed task ⌝ }
@@ -36,25 +37,50 @@ fn through_goals(task: Task, room: &mut [u8]) -> usize
     ensures { λ r. ⌜ Placed (now (room .entry)) (now (room .exit)) 0 r (throughGoals task) ⌝ }
 {
     let facts = task.table.facts;
-    let start = task.run.start;
-    let goal = task.run.goal;
+    let starts = task.runs.starts;
+    let goals = task.runs.goals;
     let next = sizes(task, room);
-    let next = fact_records(room, next, START, facts, start);
-    fact_records(room, next, GOAL, facts, goal)
+    set_records(room, next, facts, starts[0], goals[0])
 }
 
 fn through_cells(task: Task, room: &mut [u8]) -> usize
     requires { ⌜ WellFormed task ⌝ }
     ensures { λ r. ⌜ Placed (now (room .entry)) (now (room .exit)) 0 r (throughCells task) ⌝ }
 {
-    let table = task.table;
-    let needs = table.needs;
-    let adds = table.adds;
-    let deletes = table.deletes;
+    let facts = task.table.facts;
+    let actions = task.table.actions;
     let next = through_goals(task, room);
-    let next = cell_records(room, next, NEED, table.facts, table.actions, needs);
-    let next = cell_records(room, next, ADD, table.facts, table.actions, adds);
-    cell_records(room, next, DELETE, table.facts, table.actions, deletes)
+    let next = cell_records(room, next, NEED, facts, actions, &task.table.needs);
+    let next = cell_records(room, next, ADD, facts, actions, &task.table.adds);
+    cell_records(room, next, DELETE, facts, actions, &task.table.deletes)
+}
+
+// The runs after the first.
+fn further_runs(task: Task, room: &mut [u8], at: usize) -> usize
+    requires { ⌜ WellFormed task ⌝ }
+    requires { ⌜ at + length (furtherRuns task) ≤ lastPlace ⌝ }
+    ensures { λ r. ⌜ Placed (now (room .entry)) (now (room .exit)) at r (furtherRuns task) ⌝ }
+{
+    let facts = task.table.facts;
+    let starts = task.runs.starts;
+    let goals = task.runs.goals;
+    let counts = task.runs.counts;
+    let further = task.runs.many - 1;
+    let mut next = at;
+    for i in 0..further {
+        let run = i + 1;
+        next = run_records(
+            room,
+            next,
+            facts,
+            starts[run],
+            goals[run],
+            &task.runs.steps,
+            run,
+            counts[run],
+        );
+    }
+    next
 }
 
 // The place past the file, whether the room goes so far or not.
@@ -62,8 +88,9 @@ pub(crate) fn whole(task: Task, room: &mut [u8]) -> usize
     requires { ⌜ WellFormed task ⌝ }
     ensures { λ r. ⌜ Placed (now (room .entry)) (now (room .exit)) 0 r (fileOf task) ⌝ }
 {
-    let run = task.run;
+    let counts = task.runs.counts;
     let next = through_cells(task, room);
-    let next = step_records(room, next, run);
+    let next = step_records(room, next, &task.runs.steps, 0, counts[0]);
+    let next = further_runs(task, room, next);
     put(room, next, END)
 }

@@ -14,3 +14,5 @@ pub const DELETE: u8 = taskfile::kinds::DELETE as u8;
 pub const STEP: u8 = taskfile::kinds::STEP as u8;
 
 pub const END: u8 = taskfile::kinds::END as u8;
+
+pub const RUN: u8 = taskfile::kinds::RUN as u8;

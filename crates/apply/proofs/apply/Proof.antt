@@ -1,4 +1,4 @@
--- `change::apply::apply` meets its contract: a law for each way out. Assumes nothing.
+-- `apply::apply` meets its contract: a law for each way out. Assumes nothing.
 use mathlib.Core.Path.{sym, _∙_}
 use native.Mathlib.Omega.{arith}
 use borrow.Author.Tests.{not-true, not-false}
@@ -10,7 +10,15 @@ use Rattle.apply.proofs.apply.Statement.{statement}
 use Rattle.apply.proofs.apply.Tie as tie
 
 shaped : (c : tie.Start) → Shaped (c .args .t)
-shaped c = record { needs = search needs; adds = search needs; deletes = search needs; steps = search needs }
+shaped c = record {
+  needs = search needs;
+  adds = search needs;
+  deletes = search needs;
+  starts = search needs;
+  goals = search needs;
+  counts = search needs;
+  steps = search needs;
+}
 
 is-formed-requires : tie.Need-is-formed-requires
 is-formed-requires c κs = search needs

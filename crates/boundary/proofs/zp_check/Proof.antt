@@ -3,6 +3,7 @@ use native.Mathlib.Omega.{arith}
 use Rattle.taskwords.proofs.AnsweringLaws.{answers-short, answers-given}
 use mathlib.Core.Path.{ap, _∙_}
 use Rattle.runcheck.specs.OpenNeeds.{checked}
+use Rattle.table.specs.declared.Task.{Task}
 use Rattle.taskwords.specs.Answers.{checkedWords}
 use Rattle.boundary.specs.BoundaryCalls.{ChecksRun}
 use borrow.Author.Needs.{needs}
@@ -30,8 +31,10 @@ unfolding ChecksRun
 returns-2 c =
     let y = c .before .before in
     let z = y .before .before in
-    answers-given (checkedWords (z .check-run .result)) (omega (arith, z .before .before .if1 .left))
-    (ap checkedWords (z .check-run .ensures ∙ ap checked (z .before .task-in .ensures))) (y .give-checked .ensures)
+    let ok = z .before .before in
+    let run = ok .before .before .before .args .run in
+    answers-given (checkedWords (z .check-run .result)) (omega (arith, ok .if1 .left))
+    (ap checkedWords (z .check-run .ensures ∙ ap (λ (t : Task). checked t run) (z .before .task-in .ensures))) (y .give-checked .ensures)
 
 pub zp-check-spec : {M : Type 1} → statement M
 zp-check-spec =

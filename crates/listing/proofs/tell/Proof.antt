@@ -2,7 +2,7 @@
 use native.Mathlib.Omega.{arith}
 use Rattle.table.proofs.OutcomeLaws.{refused-told, given-short}
 use Rattle.table.specs.Refusals.{roomTooShort}
-use Rattle.text.specs.Text.{textOf}
+use Rattle.text.specs.Text.{checkIn, textOf}
 use Rattle.listing.proofs.TellingLaws.{told-whole}
 use borrow.Author.Needs.{needs}
 use Rattle.listing.proofs.tell.Statement.{statement}
@@ -21,7 +21,7 @@ returns : tie.Need-returns
 returns c =
     let a = start (c .before .before) .args in
     refused-told roomTooShort (c .refusal .result) (a .room .now) _ (c .refusal .ensures)
-    (given-short (textOf (a .read) (a .found) (record { reply = a .solved; room = a .list .now })) (a .room .now) (omega arith))
+    (given-short (textOf (a .read) (checkIn (a .checks)) (record { reply = a .solved; room = a .list .now })) (a .room .now) (omega arith))
 
 whole-requires : tie.Need-whole-requires
 whole-requires c κs = search needs
@@ -33,7 +33,7 @@ returns-2 : tie.Need-returns-2
 returns-2 c =
     let d = c .before .before in
     let a = start (d .before .before .before) .args in
-    told-whole (textOf (a .read) (a .found) (record { reply = a .solved; room = a .list .now })) (a .room .now) _ _ (d .whole .ensures)
+    told-whole (textOf (a .read) (checkIn (a .checks)) (record { reply = a .solved; room = a .list .now })) (a .room .now) _ _ (d .whole .ensures)
     (omega arith)
 
 pub tell-spec : {M : Type 1} → statement M

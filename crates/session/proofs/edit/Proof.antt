@@ -8,7 +8,7 @@ use Rattle.change.proofs.EditLaws.{edited-exactly, edited-well}
 use Rattle.change.specs.Editing.{edited, cellInside}
 use Rattle.table.proofs.Formation.{told-formed, told-unformed, well-formed}
 use Rattle.table.proofs.Strides.{sessionPlaces-rows}
-use Rattle.table.specs.Refusals.{notWellFormed, notASession, editOutside}
+use Rattle.table.specs.Refusals.{notWellFormed, notASession, notThere}
 use Rattle.table.specs.Tasks.{Shaped, WellFormed}
 use Rattle.session.proofs.CallLaws.{edit-malformed, edit-not-a-session, edit-outside, edits-refused, edits-done, inside-low}
 use Rattle.session.proofs.edit.Statement.{statement}
@@ -67,7 +67,7 @@ returns-3 c =
     let d = e .before in
     let a = start (d .before) .args in
     rw (c .refuse-edit3 .ensures)
-    (edits-refused (a .t) (a .table .now) (a .e) editOutside (omega arith)
+    (edits-refused (a .t) (a .table .now) (a .e) notThere (omega arith)
     (edit-outside (a .t) (a .table .now) (a .e) (well-formed (a .t) (well d)) (e .if2 .left)
     (sym (inside .ensures) ∙ not-true (inside .result) (c .before .if3 .taken))))
 

@@ -1,12 +1,12 @@
--- `taskfile::read` meets its contract. The loop keeps that what is read from its place on is what reading the file gives;
--- the bytes that are left fall. Assumes nothing.
+-- `taskfile::read` meets its contract. The loop keeps that what is read from its place on is what reading the file gives, and that the count
+-- known is that of the last run; the bytes that are left fall. Assumes nothing.
 use mathlib.Core.List.{List}
 use mathlib.Core.Path.{_≡_, refl, sym, ap, ap₂, _∙_, subst, subst₂}
 use Prim.Native.Nat.{ℕ, _+_, _-_}
 use borrow.Author.Needs.{needs}
 use native.Mathlib.Omega.{arith}
 use denote.Ref.{now}
-use lib.ListN.{length}
+use lib.ListN.{length, getD}
 use Rattle.table.specs.Refusals.{Refusal, bytesAfterEnd}
 use Rattle.table.specs.Tasks.{Shaped}
 use Rattle.taskformat.specs.Format.{bodyLength}
@@ -14,25 +14,27 @@ use Rattle.taskformat.specs.Reading.{Seen, Reads, faulty, good, ended, trailing
 use Rattle.taskfile.specs.Records.{seenOf, seenWith}
 use Rattle.table.specs.declared.TaskReply.{TaskReply}
 use Rattle.taskformat.proofs.Clear.{Clear, clear}
-use Rattle.taskfile.proofs.ReaderLaws.{numbers-decide, one-more, shaped-next}
+use Rattle.taskfile.proofs.ReaderLaws.{numbers-decide, one-more, shaped-next, step-has-room}
 use Rattle.taskfile.proofs.read.Statement.{statement}
 use Rattle.taskfile.proofs.read.Tie as tie
 
 abbrev Inv-loop : tie.InvT-loop
-Inv-loop s at₀ known₀ needs₀ adds₀ deletes₀ steps₀ at known needs adds deletes steps =
-    ((r : TaskReply) → Reads s r at (seenWith known needs adds deletes steps) → ReadsFile s r)
-    × Shaped (seenWith known needs adds deletes steps .task)
+Inv-loop s at₀ known₀ needs₀ adds₀ deletes₀ starts₀ goals₀ counts₀ steps₀ at known needs adds deletes starts goals counts steps =
+    ((r : TaskReply) → Reads s r at (seenWith known needs adds deletes starts goals counts steps) → ReadsFile s r)
+    × (getD counts (known .runs - 1) 0 ≡ known .count)
+    × Shaped (seenWith known needs adds deletes starts goals counts steps .task)
 
 abbrev μ-loop : tie.MeasureT-loop
-μ-loop s at₀ known₀ needs₀ adds₀ deletes₀ steps₀ at known needs adds deletes steps = length s - at
+μ-loop s at₀ known₀ needs₀ adds₀ deletes₀ starts₀ goals₀ counts₀ steps₀ at known needs adds deletes starts goals counts steps = length s - at
 
 abbrev file : tie.At-loop Inv-loop μ-loop → List ℕ
 file c = now (c .before .before .before .args .s)
 
 abbrev seen : tie.At-loop Inv-loop μ-loop → Seen
-seen c = seenWith (c .loop .known) (c .loop .needs) (c .loop .adds) (c .loop .deletes) (c .loop .steps)
+seen c =
+    seenWith (c .loop .known) (c .loop .needs) (c .loop .adds) (c .loop .deletes) (c .loop .starts) (c .loop .goals) (c .loop .counts) (c .loop .steps)
 
--- The loop's place as it is after the call for the fault, after its test, and after each store.
+-- The loop's place as it is after the call for the fault, after its test, and after the kind is read.
 abbrev at-fault : tie.After-fault-at Inv-loop μ-loop → tie.At-loop Inv-loop μ-loop
 at-fault c = c .before
 
@@ -42,30 +44,33 @@ tested c = c .before .before
 abbrev place : tie.Else1 Inv-loop μ-loop → tie.At-loop Inv-loop μ-loop
 place c = at-fault (tested c)
 
-abbrev fact-read : tie.After-put-cell Inv-loop μ-loop → tie.After-number-at Inv-loop μ-loop
-fact-read c = c .before .before
-
-abbrev needs-put : tie.After-put-cell2 Inv-loop μ-loop → tie.After-put-cell Inv-loop μ-loop
-needs-put c = c .before .before
-
-abbrev adds-put : tie.After-put-cell3 Inv-loop μ-loop → tie.After-put-cell2 Inv-loop μ-loop
-adds-put c = c .before .before
-
-abbrev deletes-put : tie.After-put-step Inv-loop μ-loop → tie.After-put-cell3 Inv-loop μ-loop
-deletes-put c = c .before .before
-
-abbrev not-end : tie.After-number-at Inv-loop μ-loop → tie.Else2 Inv-loop μ-loop
-not-end c = c .before .before .before
-
 abbrev good-at : tie.After-kind-at Inv-loop μ-loop → tie.Else1 Inv-loop μ-loop
 good-at c = c .before
 
-abbrev stored : tie.After-put-step Inv-loop μ-loop → tie.After-number-at Inv-loop μ-loop
-stored c = fact-read (needs-put (adds-put (deletes-put c)))
+-- The places after the stores and before them, each from the next.
+abbrev not-end : tie.After-last-run Inv-loop μ-loop → tie.Else2 Inv-loop μ-loop
+not-end c = c .before .before .before
+
+abbrev run-told : tie.After-put-cell Inv-loop μ-loop → tie.After-last-run Inv-loop μ-loop
+run-told c = c .before .before .before .before
+
+abbrev cell-put : tie.After-put-set Inv-loop μ-loop → tie.After-put-cell Inv-loop μ-loop
+cell-put c = let starts = c .before .before in let cells = starts .before .before .before in cells .before
+
+abbrev set-put : tie.After-put-step Inv-loop μ-loop → tie.After-put-set Inv-loop μ-loop
+set-put c = let counts = c .before .before in counts .before .before .before
+
+abbrev step-put : tie.After-after Inv-loop μ-loop → tie.After-put-step Inv-loop μ-loop
+step-put c = c .before .before .before .before
+
+abbrev kind-read : tie.After-put-set Inv-loop μ-loop → tie.After-kind-at Inv-loop μ-loop
+kind-read c = not-end (run-told (cell-put c)) .before
 
 -- A fault is that of what has been seen.
 same-fault : (c : tie.At-loop Inv-loop μ-loop) → faultAt (file c) (c .loop .at) (seen c) ≡ faultAt (file c) (c .loop .at) (seenOf (c .loop .known))
-same-fault c = numbers-decide (file c) (c .loop .at) (c .loop .known) (c .loop .needs) (c .loop .adds) (c .loop .deletes) (c .loop .steps)
+same-fault c =
+    numbers-decide (file c) (c .loop .at) (c .loop .known) (c .loop .needs) (c .loop .adds) (c .loop .deletes) (c .loop .starts) (c .loop .goals)
+    (c .loop .counts) (c .loop .steps) (c .loop .inv .1)
 
 same-number : (c : tie.After-fault-at Inv-loop μ-loop) → let p = at-fault c in c .fault-at .result .number ≡ faultAt (file p) (p .loop .at) (seen p) .number
 same-number c = c .fault-at .ensures .0 ∙ sym (ap (λ (f : Refusal). f .number) (same-fault (at-fault c)))
@@ -87,7 +92,11 @@ nothing-known-requires : tie.Need-nothing-known-requires Inv-loop μ-loop
 nothing-known-requires c κs = search needs
 
 loop-holds : tie.Need-loop-holds Inv-loop μ-loop
-loop-holds c = (λ r h. rw (c .nothing-known .ensures) at h, record { needs = refl; adds = refl; deletes = refl; steps = refl })
+loop-holds c = (
+  λ r h. rw (c .nothing-known .ensures) at h,
+  rw (c .nothing-known .ensures),
+  record { needs = refl; adds = refl; deletes = refl; starts = refl; goals = refl; counts = refl; steps = refl },
+)
 
 fault-at-requires : tie.Need-fault-at-requires Inv-loop μ-loop
 fault-at-requires c κs = search needs
@@ -131,62 +140,96 @@ returns-3 c =
 byte-at-requires : tie.Need-byte-at-requires Inv-loop μ-loop
 byte-at-requires c κs = search needs
 
-wide-requires : tie.Need-wide-requires Inv-loop μ-loop
-wide-requires c κs = search needs
-
 number-at-requires : tie.Need-number-at-requires Inv-loop μ-loop
 number-at-requires c κs = search needs
 
+last-run-requires : tie.Need-last-run-requires Inv-loop μ-loop
+last-run-requires c κs = search needs
+
+slice-aggregate-put-cell : tie.Need-slice-aggregate-put-cell Inv-loop μ-loop
+slice-aggregate-put-cell c = search needs
+
+slice-aggregate-put-cell-2 : tie.Need-slice-aggregate-put-cell-2 Inv-loop μ-loop
+slice-aggregate-put-cell-2 c = search needs
+
+slice-aggregate-put-cell-3 : tie.Need-slice-aggregate-put-cell-3 Inv-loop μ-loop
+slice-aggregate-put-cell-3 c = search needs
+
+cast-put-cell : tie.Need-cast-put-cell Inv-loop μ-loop
+cast-put-cell c = search needs
+
 put-cell-requires : tie.Need-put-cell-requires Inv-loop μ-loop
-put-cell-requires c κs = place (good-at (not-end (c .before) .before)) .loop .inv .1 .needs
+put-cell-requires c κs = search needs
 
-put-cell-requires-2 : tie.Need-put-cell-requires-2 Inv-loop μ-loop
-put-cell-requires-2 c κs = place (good-at (not-end (fact-read (c .before)) .before)) .loop .inv .1 .adds
+slice-aggregate-put-set : tie.Need-slice-aggregate-put-set Inv-loop μ-loop
+slice-aggregate-put-set c = search needs
 
-put-cell-requires-3 : tie.Need-put-cell-requires-3 Inv-loop μ-loop
-put-cell-requires-3 c κs = place (good-at (not-end (fact-read (needs-put (c .before))) .before)) .loop .inv .1 .deletes
+slice-aggregate-put-set-2 : tie.Need-slice-aggregate-put-set-2 Inv-loop μ-loop
+slice-aggregate-put-set-2 c = search needs
 
+cast-put-set : tie.Need-cast-put-set Inv-loop μ-loop
+cast-put-set c = search needs
+
+put-set-requires : tie.Need-put-set-requires Inv-loop μ-loop
+put-set-requires c κs = search needs
+
+slice-aggregate-put-step : tie.Need-slice-aggregate-put-step Inv-loop μ-loop
+slice-aggregate-put-step c = search needs
+
+slice-aggregate-put-step-2 : tie.Need-slice-aggregate-put-step-2 Inv-loop μ-loop
+slice-aggregate-put-step-2 c = search needs
+
+-- A good step comes while the last run has room for it.
 put-step-requires : tie.Need-put-step-requires Inv-loop μ-loop
-put-step-requires c κs = place (good-at (not-end (fact-read (needs-put (adds-put (c .before)))) .before)) .loop .inv .1 .steps
+put-step-requires c κs =
+    let k = kind-read (c .before .before .before .before) in
+    let p = place (good-at k) in ((search needs, search needs), step-has-room (p .loop .known) (k .kind-at .ensures) (p .loop .inv .1) (clean (good-at k)))
+
+slice-aggregate-after : tie.Need-slice-aggregate-after Inv-loop μ-loop
+slice-aggregate-after c = search needs
 
 after-requires : tie.Need-after-requires Inv-loop μ-loop
-after-requires c κs = let q = good-at (not-end (stored c) .before) in sym (tested q .fault-at .ensures .0) ∙ q .if1 .left
+after-requires c κs =
+    let q = good-at (kind-read (set-put (c .before .before .before))) in sym (tested q .fault-at .ensures .0) ∙ q .if1 .left
 
 body-length-requires : tie.Need-body-length-requires Inv-loop μ-loop
 body-length-requires c κs = search needs
 
 -- The next place, which is within the file.
-next : (c : tie.After-body-length Inv-loop μ-loop) → let p = place (good-at (not-end (stored (c .before .before)) .before)) in
+next : (c : tie.After-body-length Inv-loop μ-loop) → let p = place (good-at (kind-read (set-put (step-put (c .before))))) in
     nextAt (file p) (p .loop .at) ≡ p .loop .at + 1 + c .body-length .result
 next c =
-    let k = not-end (stored (c .before .before)) .before in
+    let k = kind-read (set-put (step-put (c .before))) in
     let p = place (good-at k) in
     ap (λ (n : ℕ). p .loop .at + 1 + n) (ap bodyLength (this k) ∙ sym (c .body-length .ensures))
 
 add-at : tie.Need-add-at Inv-loop μ-loop
-add-at c = let q = good-at (not-end (stored (c .before .before)) .before) in omega (arith, clean q .whole, next c)
+add-at c = let q = good-at (kind-read (set-put (step-put (c .before)))) in omega (arith, clean q .whole, next c)
 
 loop-less : tie.Need-loop-less Inv-loop μ-loop
-loop-less c = let q = good-at (not-end (stored (c .before .before)) .before) in omega (arith, clean q .begun)
+loop-less c = let q = good-at (kind-read (set-put (step-put (c .before)))) in omega (arith, clean q .begun)
 
 loop-again : tie.Need-loop-again Inv-loop μ-loop
 loop-again c =
-    let z = c .before .before in
-    let e = not-end (stored z) in
-    let k = e .before in
+    let step = step-put (c .before) in
+    let set = set-put step in
+    let cell = cell-put set in
+    let run = run-told cell in
+    let k = kind-read set in
     let q = good-at k in
     let p = place q in
     let l = p .loop in
-    let step = stored z .before .before .byte-at .ensures in
+    let numbers = c .before .after .ensures in
     let same =
-    one-more (file p) (l .at) (l .known) (l .needs) (l .adds) (l .deletes) (l .steps) (k .kind-at .ensures)
-    (stored z .before .wide .ensures ∙ step) (stored z .number-at .ensures) step (c .before .after .ensures)
-    (needs-put (adds-put (deletes-put z)) .put-cell .ensures) (adds-put (deletes-put z) .put-cell2 .ensures)
-    (deletes-put z .put-cell3 .ensures) (z .put-step .ensures) in (
+    one-more (file p) (l .at) (l .known) (l .needs) (l .adds) (l .deletes) (l .starts) (l .goals) (l .counts) (l .steps) (l .inv .1)
+    (k .kind-at .ensures) (run .before .before .byte-at .ensures) (run .before .number-at .ensures) (run .last-run .ensures) numbers
+    (cell .put-cell .ensures .0) (cell .put-cell .ensures .1 .0) (cell .put-cell .ensures .1 .1) (set .put-set .ensures .0) (set .put-set .ensures .1)
+    (step .put-step .ensures .0) (step .put-step .ensures .1) in (
       λ r h.
           l .inv .0 r
-          (good (faultless q) (λ is. e .if2 .left (sym (this k) ∙ is)) (subst₂ (Reads (file p) r) (sym (next c)) same h)),
-      subst (λ (x : Seen). Shaped (x .task)) (sym same) (shaped-next (file p) (l .at) (seen p) (l .inv .1)),
+          (good (faultless q) (λ is. not-end run .if2 .left (sym (this k) ∙ is)) (subst₂ (Reads (file p) r) (sym (next c)) same h)),
+      rw numbers,
+      subst (λ (x : Seen). Shaped (x .task)) (sym same) (shaped-next (file p) (l .at) (seen p) (l .inv .2)),
     )
 
 pub read-spec : {M : Type 1} → statement M
@@ -207,12 +250,21 @@ read-spec =
     read-as-requires
     returns-3
     byte-at-requires
-    wide-requires
     number-at-requires
+    last-run-requires
+    slice-aggregate-put-cell
+    slice-aggregate-put-cell-2
+    slice-aggregate-put-cell-3
+    cast-put-cell
     put-cell-requires
-    put-cell-requires-2
-    put-cell-requires-3
+    slice-aggregate-put-set
+    slice-aggregate-put-set-2
+    cast-put-set
+    put-set-requires
+    slice-aggregate-put-step
+    slice-aggregate-put-step-2
     put-step-requires
+    slice-aggregate-after
     after-requires
     body-length-requires
     add-at

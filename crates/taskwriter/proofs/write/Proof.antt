@@ -13,7 +13,15 @@ use Rattle.taskwriter.proofs.write.Statement.{statement}
 use Rattle.taskwriter.proofs.write.Tie as tie
 
 shaped : (c : tie.Start) → Shaped (c .args .task)
-shaped c = record { needs = search needs; adds = search needs; deletes = search needs; steps = search needs }
+shaped c = record {
+  needs = search needs;
+  adds = search needs;
+  deletes = search needs;
+  starts = search needs;
+  goals = search needs;
+  counts = search needs;
+  steps = search needs;
+}
 
 -- Past the first test the task is well formed.
 is-good : (c : tie.Else1) → formed (c .before .before .before .args .task) ≡ true

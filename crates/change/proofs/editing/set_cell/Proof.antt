@@ -26,14 +26,14 @@ set-of-kind-requires-3 c κs = search needs
 enum-known-cell-4 : tie.Need-enum-known-cell-4
 enum-known-cell-4 c = search needs
 
-set-fact-requires : tie.Need-set-fact-requires
-set-fact-requires c κs = search needs
+set-in-run-requires : tie.Need-set-in-run-requires
+set-in-run-requires c κs = search needs
 
 enum-known-cell-5 : tie.Need-enum-known-cell-5
 enum-known-cell-5 c = search needs
 
-set-fact-requires-2 : tie.Need-set-fact-requires-2
-set-fact-requires-2 c κs = search needs
+set-in-run-requires-2 : tie.Need-set-in-run-requires-2
+set-in-run-requires-2 c κs = search needs
 
 returns : tie.Need-returns
 unfolding setCell kindSet
@@ -49,11 +49,11 @@ returns-3 c = rw (c .set-of-kind3 .ensures, c .before .before .cell3 .given .1)
 
 returns-4 : tie.Need-returns-4
 unfolding setCell
-returns-4 c = rw (c .before .set-fact .ensures, c .before .before .before .cell4 .given .1)
+returns-4 c = let set = c .before .before .before in rw (set .set-in-run .ensures, set .before .before .before .cell4 .given .1)
 
 returns-5 : tie.Need-returns-5
 unfolding setCell
-returns-5 c = rw (c .before .set-fact2 .ensures, c .before .before .before .cell5 .given .1)
+returns-5 c = let set = c .before .before .before in rw (set .set-in-run2 .ensures, set .before .before .before .cell5 .given .1)
 
 pub set-cell-spec : {M : Type 1} → statement M
 set-cell-spec =
@@ -66,9 +66,9 @@ set-cell-spec =
     enum-known-cell-3
     set-of-kind-requires-3
     enum-known-cell-4
-    set-fact-requires
+    set-in-run-requires
     enum-known-cell-5
-    set-fact-requires-2
+    set-in-run-requires-2
     returns
     returns-2
     returns-3

@@ -14,17 +14,17 @@ shared-slice-read-kind c = search needs
 cast-kind : tie.Need-cast-kind
 cast-kind c = omega (arith, c .shared-slice-known2 .given (c .before .before .args .at))
 
-add-action : tie.Need-add-action
-add-action c = search needs
+add-whose : tie.Need-add-whose
+add-whose c = search needs
 
-mul-action : tie.Need-mul-action
-mul-action c = search needs
+mul-whose : tie.Need-mul-whose
+mul-whose c = search needs
 
-shared-slice-read-action : tie.Need-shared-slice-read-action
-shared-slice-read-action c = search needs
+shared-slice-read-whose : tie.Need-shared-slice-read-whose
+shared-slice-read-whose c = search needs
 
-cast-action : tie.Need-cast-action
-cast-action c = omega (arith, c .shared-slice-known3 .given (c .before .before .before .args .at + 1))
+cast-whose : tie.Need-cast-whose
+cast-whose c = omega (arith, c .shared-slice-known3 .given (c .before .before .before .args .at + 1))
 
 add-fact : tie.Need-add-fact
 add-fact c = search needs
@@ -37,8 +37,8 @@ shared-slice-read-fact c = search needs
 
 cast-fact : tie.Need-cast-fact
 cast-fact c =
-    let action-read = c .before in
-    omega (arith, c .shared-slice-known4 .given (action-read .before .before .before .args .at + 2))
+    let whose-read = c .before in
+    omega (arith, c .shared-slice-known4 .given (whose-read .before .before .before .args .at + 2))
 
 add-present : tie.Need-add-present
 add-present c = search needs
@@ -51,8 +51,8 @@ shared-slice-read-present c = search needs
 
 cast-present : tie.Need-cast-present
 cast-present c =
-    let action-read = c .before .before in
-    omega (arith, c .shared-slice-known5 .given (action-read .before .before .before .args .at + 3))
+    let whose-read = c .before .before in
+    omega (arith, c .shared-slice-known5 .given (whose-read .before .before .before .args .at + 3))
 
 edit-of-requires : tie.Need-edit-of-requires
 edit-of-requires c κs = search needs
@@ -67,10 +67,10 @@ edit-at-spec =
     mul-kind
     shared-slice-read-kind
     cast-kind
-    add-action
-    mul-action
-    shared-slice-read-action
-    cast-action
+    add-whose
+    mul-whose
+    shared-slice-read-whose
+    cast-whose
     add-fact
     mul-fact
     shared-slice-read-fact

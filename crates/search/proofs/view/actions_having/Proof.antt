@@ -4,7 +4,8 @@ use native.Mathlib.Omega.{arith}
 use borrow.Author.Needs.{needs}
 use lib.ListN.{getD}
 use Rattle.table.specs.Sizes.{maxActions}
-use Rattle.search.proofs.ViewLaws.{GathersBelow, gathers-none, gathers-more, gathers-end}
+use Rattle.search.proofs.ViewLaws.{gathers-none, gathers-more, gathers-end}
+use Rattle.search.specs.Views.{GathersBelow}
 use Rattle.search.proofs.view.actions_having.Statement.{statement}
 use Rattle.search.proofs.view.actions_having.Tie as tie
 

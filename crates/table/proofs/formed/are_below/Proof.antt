@@ -6,16 +6,15 @@ use native.Mathlib.Omega.{arith}
 use denote.Ref.{now}
 use Rattle.table.specs.Counting.{everyFrom}
 use Rattle.table.specs.Passes.{stepBelow}
-use Rattle.table.specs.Sizes.{maxSteps}
 use Rattle.table.proofs.CountingLaws.{everyFrom-none, everyFrom-more, at-end}
 use Rattle.table.proofs.formed.are_below.Statement.{statement}
 use Rattle.table.proofs.formed.are_below.Tie as tie
 
 abbrev Inv-loop : tie.InvT-loop
-Inv-loop steps from n good₀ i₀ good i = (from ≤ i) × (i ≤ maxSteps) × (good ≡ everyFrom (stepBelow steps n) from i)
+Inv-loop steps from to n good₀ i₀ good i = (from ≤ i) × (i ≤ to) × (good ≡ everyFrom (stepBelow steps n) from i)
 
 abbrev μ-loop : tie.MeasureT-loop
-μ-loop steps from n good₀ i₀ good i = maxSteps - i
+μ-loop steps from to n good₀ i₀ good i = to - i
 
 loop-holds : tie.Need-loop-holds Inv-loop μ-loop
 loop-holds c = (search needs, search needs, everyFrom-none (stepBelow (now (c .args .steps)) (c .args .n)) (c .args .from))
@@ -40,7 +39,7 @@ returns : tie.Need-returns Inv-loop μ-loop
 returns c =
     let at = c .before in
     let a = at .before .args in
-    at-end (everyFrom (stepBelow (now (a .steps)) (a .n)) (a .from)) (at .loop .i) maxSteps (at .loop .inv .1) (omega arith) (at .loop .inv .2)
+    at-end (everyFrom (stepBelow (now (a .steps)) (a .n)) (a .from)) (at .loop .i) (a .to) (at .loop .inv .1) (omega arith) (at .loop .inv .2)
 
 pub are-below-spec : {M : Type 1} → statement M
 are-below-spec =

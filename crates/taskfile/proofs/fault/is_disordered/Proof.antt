@@ -10,17 +10,31 @@ position-requires c κs = search needs
 position-requires-2 : tie.Need-position-requires-2
 position-requires-2 c κs = search needs
 
+is-cell-kind-requires : tie.Need-is-cell-kind-requires
+is-cell-kind-requires c κs = search needs
+
+last-run-requires : tie.Need-last-run-requires
+last-run-requires c κs = search needs
+
 is-fact-kind-requires : tie.Need-is-fact-kind-requires
 is-fact-kind-requires c κs = search needs
 
-is-cell-kind-requires : tie.Need-is-cell-kind-requires
-is-cell-kind-requires c κs = search needs
+is-cell-kind-requires-2 : tie.Need-is-cell-kind-requires-2
+is-cell-kind-requires-2 c κs = search needs
 
 returns : tie.Need-returns
 unfolding disordered
 returns c =
-    let p = c .before .before .before .before in
-    rw (p .before .position .ensures, p .position2 .ensures, c .before .before .is-fact-kind .ensures, c .before .is-cell-kind .ensures)
+    let run = c .before .before .before .before in
+    let down = run .before .before in
+    rw (
+      down .before .position .ensures,
+      down .position2 .ensures,
+      run .before .is-cell-kind .ensures,
+      run .last-run .ensures,
+      c .before .before .is-fact-kind .ensures,
+      c .before .is-cell-kind2 .ensures,
+    )
 
 pub is-disordered-spec : {M : Type 1} → statement M
 is-disordered-spec =
@@ -28,6 +42,8 @@ is-disordered-spec =
     (tie.spec
     position-requires
     position-requires-2
-    is-fact-kind-requires
     is-cell-kind-requires
+    last-run-requires
+    is-fact-kind-requires
+    is-cell-kind-requires-2
     returns)

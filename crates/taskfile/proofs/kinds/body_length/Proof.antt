@@ -20,12 +20,12 @@ returns-2 c = rw (ne-eqb _ _ (c .before .before .if1 .left), sym (c .before .is-
 returns-3 : tie.Need-returns-3
 unfolding bodyLength
 returns-3 c =
-    rw (ne-eqb _ _ (c .before .before .before .if1 .left), sym (c .before .before .is-cell-kind .ensures) ∙ c .before .if2 .left, eq-eqb _ _ (c .if3 .taken))
+    rw (ne-eqb _ _ (c .before .before .before .if1 .left), sym (c .before .before .is-cell-kind .ensures) ∙ c .before .if2 .left, c .if3 .taken)
 
 returns-4 : tie.Need-returns-4
 unfolding bodyLength
 returns-4 c =
-    rw (ne-eqb _ _ (c .before .before .before .if1 .left), sym (c .before .before .is-cell-kind .ensures) ∙ c .before .if2 .left, ne-eqb _ _ (c .if3 .left))
+    rw (ne-eqb _ _ (c .before .before .before .if1 .left), sym (c .before .before .is-cell-kind .ensures) ∙ c .before .if2 .left, c .if3 .left)
 
 pub body-length-spec : {M : Type 1} → statement M
 body-length-spec = tie.close (tie.spec returns is-cell-kind-requires returns-2 returns-3 returns-4)

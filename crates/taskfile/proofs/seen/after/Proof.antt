@@ -1,32 +1,51 @@
--- `taskfile::seen::after` meets its contract: at each kind the definition's other fields compute away. Assumes nothing.
-use mathlib.Core.Path.{_≡_, sym, _∙_}
+-- `taskfile::seen::after` meets its contract: where the record is not of the sizes they stay. Assumes nothing.
+use mathlib.Core.Path.{sym, ap, _∙_}
+use Prim.Native.Nat.{ℕ, _-_}
 use borrow.Author.Needs.{needs}
-use native.Mathlib.Omega.{arith}
 use denote.Ref.{now}
+use lib.ListN.{getD}
 use Rattle.taskfile.specs.Records.{seenOf}
 use Rattle.taskformat.proofs.Clear.{clear}
-use Rattle.taskfile.proofs.ReaderLaws.{has-room, after-sizes, after-start, after-goal, after-step, after-cell}
+use Rattle.taskfile.proofs.ReaderLaws.{after-sizes, after-other}
 use Rattle.taskfile.proofs.seen.after.Statement.{statement}
 use Rattle.taskfile.proofs.seen.after.Tie as tie
 
--- The place after the body is read; the kind's from it, and the entry.
-abbrev kind-read : tie.After-body-number → tie.After-kind-at
+-- The place after the kind is read, from that after the runs are counted; the entry from it.
+abbrev kind-read : tie.After-runs-after → tie.After-kind-at
 kind-read c = c .before .before
 
-abbrev entry : tie.After-body-number → tie.Start
-entry c = kind-read c .before .before
-
-abbrev read₃ : tie.Else3 → tie.After-body-number
-read₃ c = c .before .before .before
+abbrev entry : tie.After-kind-at → tie.Start
+entry c = c .before .before .before
 
 kind-at-requires : tie.Need-kind-at-requires
 kind-at-requires c κs = search needs
 
-number-at-requires : tie.Need-number-at-requires
-number-at-requires c κs = search needs
-
 body-number-requires : tie.Need-body-number-requires
 body-number-requires c κs = search needs
+
+runs-after-requires : tie.Need-runs-after-requires
+runs-after-requires c κs =
+    let k = c .before in
+    let i = entry k .args in
+    rw (k .kind-at .ensures) (clear (now (i .s)) (i .at) (seenOf (i .known)) (entry k .pre) .runs)
+
+last-run-requires : tie.Need-last-run-requires
+last-run-requires c κs = search needs
+
+count-of-requires : tie.Need-count-of-requires
+count-of-requires c κs = search needs
+
+returns : tie.Need-returns
+returns c =
+    let n = c .before in
+    let m = n .before .before in
+    let k = kind-read m in
+    let i = entry k .args in
+    after-other (now (i .s)) (i .at) (i .known) (now (i .counts)) (k .kind-at .ensures) (m .before .body-number .ensures) (m .runs-after .ensures)
+    (n .count-of .ensures ∙ ap (λ (r : ℕ). getD (now (i .counts)) r 0) (n .before .last-run .ensures)) (c .if1 .taken)
+
+number-at-requires : tie.Need-number-at-requires
+number-at-requires c κs = search needs
 
 number-at-requires-2 : tie.Need-number-at-requires-2
 number-at-requires-2 c κs = search needs
@@ -34,67 +53,28 @@ number-at-requires-2 c κs = search needs
 number-at-requires-3 : tie.Need-number-at-requires-3
 number-at-requires-3 c κs = search needs
 
-returns : tie.Need-returns
-returns c =
-    let p = c .before .before .before in
-    let i = entry p .args in
-    after-sizes (now (i .s)) (i .at) (i .known) (kind-read p .kind-at .ensures) (p .before .number-at .ensures) (p .body-number .ensures)
-    (c .before .number-at2 .ensures) (c .number-at3 .ensures) (c .before .before .if1 .taken)
-
-with-fact-requires : tie.Need-with-fact-requires
-with-fact-requires c κs = search needs
-
 returns-2 : tie.Need-returns-2
 returns-2 c =
-    let p = c .before .before .before in
-    let i = entry p .args in
-    after-start (now (i .s)) (i .at) (i .known) (kind-read p .kind-at .ensures) (p .before .number-at .ensures) (p .body-number .ensures)
-    (c .with-fact .ensures) (c .before .if2 .taken)
-
-with-fact-requires-2 : tie.Need-with-fact-requires-2
-with-fact-requires-2 c κs = search needs
-
-returns-3 : tie.Need-returns-3
-returns-3 c =
-    let p = c .before .before .before .before in
-    let i = entry p .args in
-    after-goal (now (i .s)) (i .at) (i .known) (kind-read p .kind-at .ensures) (p .before .number-at .ensures) (p .body-number .ensures)
-    (c .with-fact2 .ensures) (c .before .if3 .taken)
-
-add-known : tie.Need-add-known
-add-known c =
-    let p = read₃ (c .before .before) in
-    let i = entry p .args in
-    omega (arith, has-room (clear (now (i .s)) (i .at) (seenOf (i .known)) (entry p .pre)) (sym (kind-read p .kind-at .ensures) ∙ c .before .if4 .taken))
-
-returns-4 : tie.Need-returns-4
-returns-4 c =
-    let p = read₃ (c .before .before) in
-    let i = entry p .args in
-    after-step (now (i .s)) (i .at) (i .known) (kind-read p .kind-at .ensures) (p .before .number-at .ensures) (p .body-number .ensures)
-    (c .before .if4 .taken)
-
-returns-5 : tie.Need-returns-5
-returns-5 c =
-    let p = read₃ (c .before) in
-    let i = entry p .args in
-    after-cell (now (i .s)) (i .at) (i .known) (kind-read p .kind-at .ensures) (p .before .number-at .ensures) (p .body-number .ensures)
-    (c .before .before .before .if1 .left) (c .before .before .if2 .left) (c .before .if3 .left) (c .if4 .left)
+    let e = c .before .before .before in
+    let n = e .before in
+    let m = n .before .before in
+    let k = kind-read m in
+    let i = entry k .args in
+    after-sizes (now (i .s)) (i .at) (i .known) (now (i .counts)) (k .kind-at .ensures) (m .before .body-number .ensures) (m .runs-after .ensures)
+    (n .count-of .ensures ∙ ap (λ (r : ℕ). getD (now (i .counts)) r 0) (n .before .last-run .ensures))
+    (c .before .before .number-at .ensures) (c .before .number-at2 .ensures) (c .number-at3 .ensures) (e .if1 .left)
 
 pub after-spec : {M : Type 1} → statement M
 after-spec =
     tie.close
     (tie.spec
     kind-at-requires
-    number-at-requires
     body-number-requires
+    runs-after-requires
+    last-run-requires
+    count-of-requires
+    returns
+    number-at-requires
     number-at-requires-2
     number-at-requires-3
-    returns
-    with-fact-requires
-    returns-2
-    with-fact-requires-2
-    returns-3
-    add-known
-    returns-4
-    returns-5)
+    returns-2)

@@ -13,7 +13,7 @@ use Rattle.taskwords.proofs.answer.give_back.Statement.{statement}
 use Rattle.taskwords.proofs.answer.give_back.Tie as tie
 
 shaped : (c : tie.Start) → Shaped (c .args .changed)
-shaped c = record { needs = search needs; adds = search needs; deletes = search needs; steps = search needs }
+shaped c = search needs
 
 whole : (c : tie.Start) → length (tableOut (c .args .changed .table)) ≡ tableWords
 whole c =
@@ -26,8 +26,8 @@ returns c = sym (lent-back-kept _ _ _ (c .if1 .taken))
 put-table-requires : tie.Need-put-table-requires
 put-table-requires c κs = search needs
 
-put-run-requires : tie.Need-put-run-requires
-put-run-requires c κs =
+put-runs-requires : tie.Need-put-runs-requires
+put-runs-requires c κs =
     let p = c .before .before .before in
     let ok = p .before .before .before .before in
     omega (arith, p .put-table .ensures .next-is, whole (ok .before .before))
@@ -42,8 +42,8 @@ returns-2 c =
     let ok = q .before .before .before .before in
     let s = ok .before .before in
     lent-back-filled (now (s .args .task)) (s .args .number) (s .args .changed) (ok .if1 .left) (s .pre (ok .if1 .left)) (shaped s)
-    (placed-more (q .put-table .ensures) (p .put-run .ensures))
+    (placed-more (q .put-table .ensures) (p .put-runs .ensures))
 
 pub give-back-spec : {M : Type 1} → statement M
 give-back-spec =
-    tie.close (tie.spec returns put-table-requires put-run-requires same-length returns-2)
+    tie.close (tie.spec returns put-table-requires put-runs-requires same-length returns-2)

@@ -17,7 +17,7 @@ entry c =
     lent .before .before .before
 
 shaped : (c : tie.Start) → Shaped (c .args .task)
-shaped c = record { needs = search needs; adds = search needs; deletes = search needs; steps = search needs }
+shaped c = search needs
 
 whole : (c : tie.Start) → length (tableOut (c .args .task .table)) ≡ tableWords
 whole c =
@@ -30,8 +30,8 @@ put-two-requires c κs = search needs
 put-table-requires : tie.Need-put-table-requires
 put-table-requires c κs = search needs
 
-put-run-requires : tie.Need-put-run-requires
-put-run-requires c κs =
+put-runs-requires : tie.Need-put-runs-requires
+put-runs-requires c κs =
     let p = c .before .before .before in
     let q = p .before .before .before .before in
     omega (arith, p .put-table .ensures .next-is, q .put-two .ensures .next-is, whole (entry q))
@@ -46,8 +46,8 @@ returns c =
     let q = p .before .before .before .before in
     let s = entry q in
     given-words (answer-length (s .args .number) (s .args .place) (s .args .task) (shaped s))
-    (placed-more (placed-more (q .put-two .ensures) (p .put-table .ensures)) (o .put-run .ensures))
+    (placed-more (placed-more (q .put-two .ensures) (p .put-table .ensures)) (o .put-runs .ensures))
 
 pub give-task-spec : {M : Type 1} → statement M
 give-task-spec =
-    tie.close (tie.spec put-two-requires put-table-requires put-run-requires same-length returns)
+    tie.close (tie.spec put-two-requires put-table-requires put-runs-requires same-length returns)

@@ -9,31 +9,53 @@ use borrow.Author.Needs.{needs}
 use Rattle.taskwords.proofs.answer.put_table.Statement.{statement}
 use Rattle.taskwords.proofs.answer.put_table.Tie as tie
 
+-- what was placed before each call
+abbrev sized : tie.After-needs2 → tie.After-put-three
+sized c = c .before .before .before .before
+
+abbrev needed : tie.After-adds2 → tie.After-put-masks
+needed c = c .before .before .before .before
+
+abbrev added : tie.After-deletes2 → tie.After-put-masks2
+added c = c .before .before .before .before
+
 abbrev entry : tie.After-put-three → tie.Start
 entry c =
     let lent = c .before .before .before in
     lent .before .before .before
 
-whole : (c : tie.Start) → (length (c .args .t .needs) ≡ maxActions) × (length (c .args .t .adds) ≡ maxActions)
-whole c = (search needs, search needs)
+whole : (c : tie.Start)
+    → (length (c .args .t .needs) ≡ maxActions) × (length (c .args .t .adds) ≡ maxActions) × (length (c .args .t .deletes) ≡ maxActions)
+whole c = (search needs, search needs, search needs)
 
 put-three-requires : tie.Need-put-three-requires
 put-three-requires c κs = search needs
 
+slice-aggregate-put-masks : tie.Need-slice-aggregate-put-masks
+slice-aggregate-put-masks c = search needs
+
 put-masks-requires : tie.Need-put-masks-requires
-put-masks-requires c κs = search needs
+put-masks-requires c κs =
+    let q = sized c in
+    omega (arith, q .put-three .ensures .next-is, whole (entry q))
+
+slice-aggregate-put-masks-2 : tie.Need-slice-aggregate-put-masks-2
+slice-aggregate-put-masks-2 c = search needs
 
 put-masks-requires-2 : tie.Need-put-masks-requires-2
 put-masks-requires-2 c κs =
-    let p = c .before .before .before in
-    let q = p .before .before .before .before in
+    let p = needed c in
+    let q = sized (p .before) in
     omega (arith, p .put-masks .ensures .next-is, q .put-three .ensures .next-is, whole (entry q))
+
+slice-aggregate-put-masks-3 : tie.Need-slice-aggregate-put-masks-3
+slice-aggregate-put-masks-3 c = search needs
 
 put-masks-requires-3 : tie.Need-put-masks-requires-3
 put-masks-requires-3 c κs =
-    let o = c .before .before .before in
-    let p = o .before .before .before .before in
-    let q = p .before .before .before .before in
+    let o = added c in
+    let p = needed (o .before) in
+    let q = sized (p .before) in
     omega
     (arith, o .put-masks2 .ensures .next-is, p .put-masks .ensures .next-is, q .put-three .ensures .next-is, whole (entry q))
 
@@ -44,10 +66,10 @@ returns : tie.Need-returns
 unfolding tableOut
 returns c =
     let n = c .before .before in
-    let o = n .before .before .before .before in
-    let p = o .before .before .before .before in
+    let o = added (n .before) in
+    let p = needed (o .before) in
     placed-more
-    (placed-more (placed-more (p .before .before .before .before .put-three .ensures) (p .put-masks .ensures)) (o .put-masks2 .ensures))
+    (placed-more (placed-more (sized (p .before) .put-three .ensures) (p .put-masks .ensures)) (o .put-masks2 .ensures))
     (n .put-masks3 .ensures)
 
 pub put-table-spec : {M : Type 1} → statement M
@@ -55,8 +77,11 @@ put-table-spec =
     tie.close
     (tie.spec
     put-three-requires
+    slice-aggregate-put-masks
     put-masks-requires
+    slice-aggregate-put-masks-2
     put-masks-requires-2
+    slice-aggregate-put-masks-3
     put-masks-requires-3
     same-length
     returns)

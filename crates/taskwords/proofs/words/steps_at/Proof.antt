@@ -1,55 +1,65 @@
-use Rattle.taskwords.proofs.PartLaws.{steps-length, steps-at}
--- `steps_at` fills the array step by step.
+-- `steps_at` fills the array step by step, as far as there are steps.
+use mathlib.Core.Path.{_≡_, refl, ap, _∙_}
 use borrow.Author.Needs.{needs}
 use native.Mathlib.Omega.{arith}
-use Prim.Native.Nat.{_+_, _-_}
-use lib.ListN.{getD}
-use Rattle.table.specs.Sizes.{maxSteps}
-use Rattle.taskwords.specs.Words.{stepIn}
-use Rattle.taskwords.proofs.FillingLaws.{Filling, filling-none, filling-more, filling-all}
+use Prim.Native.Nat.{ℕ, _+_, _-_, _≤_}
+use lib.ListN.{length, getD}
+use Rattle.table.specs.Sizes.{allSteps}
+use Rattle.taskwords.specs.Words.{stepIn, stepsAt}
+use Rattle.taskwords.proofs.FillingLaws.{Begun, begun-none, begun-more, begun-all}
+use Rattle.taskwords.proofs.PartLaws.{steps-length, steps-at}
 use Rattle.taskwords.proofs.words.steps_at.Statement.{statement}
 use Rattle.taskwords.proofs.words.steps_at.Tie as tie
 
 abbrev Inv-loop : tie.InvT-loop
-Inv-loop words at steps₀ i₀ steps i = Filling (λ k. stepIn (getD words (at + k) 0)) maxSteps steps i
+Inv-loop words used steps₀ i₀ steps i = (i ≤ used) × Begun (λ k. stepIn (getD words (stepsAt + k) 0)) allSteps steps i
 
 abbrev μ-loop : tie.MeasureT-loop
-μ-loop words at steps₀ i₀ steps i = maxSteps - i
+μ-loop words used steps₀ i₀ steps i = used - i
 
 loop-holds : tie.Need-loop-holds Inv-loop μ-loop
-loop-holds c = filling-none _ _ _ (search needs)
+loop-holds c = (omega arith, begun-none _ allSteps)
 
 add-step-in : tie.Need-add-step-in Inv-loop μ-loop
-add-step-in c = search needs
+add-step-in c = omega (arith, c .before .before .before .pre .1 .0)
 
 mul-step-in : tie.Need-mul-step-in Inv-loop μ-loop
-mul-step-in c = search needs
+mul-step-in c = omega (arith, c .before .before .before .pre .1 .0)
 
 shared-slice-read-step-in : tie.Need-shared-slice-read-step-in Inv-loop μ-loop
-shared-slice-read-step-in c = search needs
+shared-slice-read-step-in c = let start = c .before .before .before .before in omega (arith, start .pre .0, start .pre .1 .0)
 
 step-in-requires : tie.Need-step-in-requires Inv-loop μ-loop
 step-in-requires c κs = search needs
 
 array-write-steps : tie.Need-array-write-steps Inv-loop μ-loop
-array-write-steps c = search needs
+array-write-steps c = omega (arith, c .before .before .before .before .before .pre .1 .0)
 
 add-i : tie.Need-add-i Inv-loop μ-loop
-add-i c = omega arith
+add-i c = omega (arith, c .before .before .before .before .before .pre .1 .0)
 
 loop-less : tie.Need-loop-less Inv-loop μ-loop
 loop-less c = omega arith
 
 loop-again : tie.Need-loop-again Inv-loop μ-loop
 loop-again c =
-    filling-more _ (c .before .before .before .loop .inv) _ (c .before .before .loop-test .taken)
-    (c .step-in .ensures)
+    let at = c .before .before .before in
+    let start = at .before .before in
+    (omega arith, begun-more _ (at .loop .inv .1) _ (omega (arith, start .pre .1 .0)) (c .step-in .ensures))
+
+none : stepIn 0 ≡ 0
+unfolding stepIn
+none = refl
 
 returns : tie.Need-returns Inv-loop μ-loop
 returns c =
-    let s = c .before .before .before in
-    filling-all _ (c .before .loop .inv) _ (c .loop-test .left) (steps-length _ _ _ (s .pre))
-    (steps-at _ _ _ (s .pre))
+    let at = c .before in
+    let start = at .before .before in
+    let ws = start .args .words .now in
+    let room : stepsAt + allSteps ≤ length ws = omega (arith, start .pre .0) in
+    let last : at .loop .i ≡ start .args .used = omega arith in
+    begun-all _ (at .loop .inv .1) _ (λ k past low. ap stepIn (start .pre .1 .1 (stepsAt + k) (omega arith) (omega arith)) ∙ none)
+    (steps-length ws stepsAt allSteps room) (steps-at ws stepsAt allSteps room)
 
 pub steps-at-spec : {M : Type 1} → statement M
 steps-at-spec =

@@ -23,11 +23,11 @@ loop-holds c = begun _ _ _ _ (c .before .pre .0)
 mul-action-records : tie.Need-mul-action-records Inv-loop μ-loop
 mul-action-records c = search needs
 
-array-read-action-records : tie.Need-array-read-action-records Inv-loop μ-loop
-array-read-action-records c = search needs
+element-copy-out-action-records : tie.Need-element-copy-out-action-records Inv-loop μ-loop
+element-copy-out-action-records c = search needs
 
 action-records-requires : tie.Need-action-records-requires Inv-loop μ-loop
-action-records-requires c κs = (next-fits (c .before .before .loop .inv) (c .before .loop-test .taken), omega arith, omega arith)
+action-records-requires c κs = let z = c .before .before in (next-fits (z .before .loop .inv) (z .loop-test .taken), omega arith, omega arith)
 
 add-action : tie.Need-add-action Inv-loop μ-loop
 add-action c = omega arith
@@ -37,8 +37,9 @@ loop-less c = omega arith
 
 loop-again : tie.Need-loop-again Inv-loop μ-loop
 loop-again c =
-    let z = c .before .before .before .before in
-    one-more (z .before .loop .inv) (z .loop-test .taken) (c .before .before .action-records .ensures)
+    let called = c .before .before in
+    let z = called .before .before .before in
+    one-more (z .before .loop .inv) (z .loop-test .taken) (called .action-records .ensures)
 
 same-length : tie.Need-same-length Inv-loop μ-loop
 same-length c = length-kept (c .before .loop .inv)
@@ -55,7 +56,7 @@ cell-records-spec =
     μ-loop
     loop-holds
     mul-action-records
-    array-read-action-records
+    element-copy-out-action-records
     action-records-requires
     add-action
     loop-less

@@ -1,0 +1,68 @@
+-- `search::view::runs_having` meets its contract: the mask has the runs passed whose set has the fact. Assumes nothing.
+use mathlib.Core.Path.{subst}
+use Prim.Native.Nat.{ℕ, _≤_, _-_}
+use native.Mathlib.Omega.{arith}
+use borrow.Author.Needs.{needs}
+use lib.ListN.{getD}
+use Rattle.search.proofs.ViewLaws.{gathers-none, gathers-more}
+use Rattle.search.specs.Views.{GathersBelow}
+use Rattle.search.proofs.view.runs_having.Statement.{statement}
+use Rattle.search.proofs.view.runs_having.Tie as tie
+
+abbrev Inv-loop : tie.InvT-loop
+Inv-loop many f sets m₀ i₀ m i = (i ≤ many) × GathersBelow (λ a. getD sets a 0) f i m
+
+abbrev μ-loop : tie.MeasureT-loop
+μ-loop many f sets m₀ i₀ m i = many - i
+
+loop-holds : tie.Need-loop-holds Inv-loop μ-loop
+loop-holds c = (omega arith, gathers-none (λ a. getD (c .args .t1) a 0) (c .args .f))
+
+mul-contains : tie.Need-mul-contains Inv-loop μ-loop
+mul-contains c = omega arith
+
+array-read-contains : tie.Need-array-read-contains Inv-loop μ-loop
+array-read-contains c = omega arith
+
+contains-requires : tie.Need-contains-requires Inv-loop μ-loop
+contains-requires c κs = search needs
+
+with-if-requires : tie.Need-with-if-requires Inv-loop μ-loop
+with-if-requires c κs = search needs
+
+add-i : tie.Need-add-i Inv-loop μ-loop
+add-i c = omega arith
+
+loop-less : tie.Need-loop-less Inv-loop μ-loop
+loop-less c = omega arith
+
+loop-again : tie.Need-loop-again Inv-loop μ-loop
+loop-again c =
+    let l = c .before .before .before in
+    let sets = l .before .args .t1 in (
+      omega arith,
+      gathers-more (λ a. getD sets a 0) (l .before .args .f) (l .loop .m) (l .loop .i) (c .with-if .result) (c .before .contains .result)
+          (omega arith) (l .loop .inv .1) (c .before .contains .ensures) (c .with-if .ensures),
+    )
+
+returns : tie.Need-returns Inv-loop μ-loop
+returns c =
+    let at = c .before in
+    let all = at .before .args in
+    subst (λ (n : ℕ). GathersBelow (λ a. getD (all .t1) a 0) (all .f) n (at .loop .m)) (omega arith) (at .loop .inv .1)
+
+pub runs-having-spec : {M : Type 1} → statement M
+runs-having-spec =
+    tie.close
+    (tie.spec
+    Inv-loop
+    μ-loop
+    loop-holds
+    mul-contains
+    array-read-contains
+    contains-requires
+    with-if-requires
+    add-i
+    loop-less
+    loop-again
+    returns)
