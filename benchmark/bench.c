@@ -2,10 +2,10 @@
  * solving gave, then nanoseconds a call, `minimum median` for each call, by the monotonic clock.
  *
  * A sample is so many calls in a row that the clock's own cost does not show; the minimum and the median are over the
- * samples. An edit is one present cell set to absent, or set back: each present cell of the task is done in turn (if
- * edits are slow, evenly spaced ones of them), the least time over the rounds is kept for each, and the line has the
- * mean and the worst over the cells; `edit/open` is the mean against opening. The last two numbers are how many facts
- * the task has, and how many of them are wrong: their rows are not empty.
+ * samples. The run that is checked is the last one. An edit is one present cell set to absent, or set back: each present
+ * cell of the task is done in turn (if edits are slow, evenly spaced ones of them), the least time over the rounds is
+ * kept for each, and the line has the mean and the worst over the cells; `edit/open` is the mean against opening. The
+ * last two numbers are how many facts the task has, and how many of them are wrong: their rows are not empty.
  *
  * Status: 2 a file cannot be opened, 3 it is refused, 4 an edit and its undoing do not give the task, 5 no cell. */
 #define _POSIX_C_SOURCE 200809L
@@ -16,7 +16,7 @@
 
 #include "../c/zernoplysk.h"
 
-enum { INPUT_BYTES = 20000, FACTS = 64, MOST_CELLS = 3 * ZP_ACTIONS * FACTS + 2 * FACTS };
+enum { INPUT_BYTES = 24000, FACTS = 64, MOST_CELLS = 3 * ZP_ACTIONS * FACTS + 2 * ZP_RUNS * FACTS };
 
 /* How many samples (rounds, for edits) at most and at least; a sample's least time; about how long all samples of one
  * call take; how long the fewest rounds of edits may take, in nanoseconds. */
@@ -30,7 +30,7 @@ static const uint64_t *const task = read_answer + 2;
 static uint16_t table[ZP_TABLE_NUMBERS], room[ZP_LIST_NUMBERS];
 
 static void reading(void) { zp_read(file, file_len, read_answer, ZP_TASK_ANSWER_WORDS); }
-static void checking(void) { zp_check(task, ZP_TASK_WORDS, answer, ZP_CHECKED_WORDS); }
+static void checking(void) { zp_check(task, ZP_TASK_WORDS, task[ZP_AT_MANY] - 1, answer, ZP_CHECKED_WORDS); }
 static void solving(void) { zp_solve(task, ZP_TASK_WORDS, room, ZP_LIST_NUMBERS, answer, ZP_REPLY_WORDS); }
 static void opening(void) { zp_open(task, ZP_TASK_WORDS, table, ZP_TABLE_NUMBERS, answer, ZP_REPLY_WORDS); }
 static void listing(void) {
@@ -70,17 +70,17 @@ static double measured(void (*call)(void)) {
 }
 
 struct cell {
-    size_t kind, action, fact;
+    size_t kind, where, fact; /* where: an action, or the run of a start or goal */
     double least;
 };
 
 static struct cell cell[MOST_CELLS];
 static size_t cells;
 
-static void take_cells(size_t kind, size_t action, uint64_t facts) {
+static void take_cells(size_t kind, size_t where, uint64_t facts) {
     for (size_t fact = 0; fact < FACTS; fact++)
         if (facts >> fact & 1)
-            cell[cells++] = (struct cell){kind, action, fact, 1e18};
+            cell[cells++] = (struct cell){kind, where, fact, 1e18};
 }
 
 /* The present cells of the task. */
@@ -91,16 +91,18 @@ static void all_cells(void) {
         take_cells(ZP_ADD, a, task[ZP_AT_ADDS + a]);
         take_cells(ZP_DELETE, a, task[ZP_AT_DELETES + a]);
     }
-    take_cells(ZP_START, 0, task[ZP_AT_START]);
-    take_cells(ZP_GOAL, 0, task[ZP_AT_GOAL]);
+    for (size_t run = 0; run < task[ZP_AT_MANY]; run++) {
+        take_cells(ZP_START, run, task[ZP_AT_STARTS + run]);
+        take_cells(ZP_GOAL, run, task[ZP_AT_GOALS + run]);
+    }
 }
 
 /* One cell to absent and back, in a copy of the task. Gives the time of one edit. */
 static double edited(const struct cell *c) {
     memcpy(changed, task, sizeof changed);
     double begun = now();
-    zp_edit(changed, ZP_TASK_WORDS, c->kind, c->action, c->fact, 0, table, ZP_TABLE_NUMBERS, answer, ZP_CHANGED_WORDS);
-    zp_edit(changed, ZP_TASK_WORDS, c->kind, c->action, c->fact, 1, table, ZP_TABLE_NUMBERS, answer, ZP_CHANGED_WORDS);
+    zp_edit(changed, ZP_TASK_WORDS, c->kind, c->where, c->fact, 0, table, ZP_TABLE_NUMBERS, answer, ZP_CHANGED_WORDS);
+    zp_edit(changed, ZP_TASK_WORDS, c->kind, c->where, c->fact, 1, table, ZP_TABLE_NUMBERS, answer, ZP_CHANGED_WORDS);
     double taken = (now() - begun) / 2;
     if (memcmp(changed, task, sizeof changed) != 0)
         exit(4);

@@ -1,6 +1,6 @@
-/* climb --seconds N --seed S FOLDER: looks for single facts that the library is slow to solve, and writes the hardest
- * as task files into FOLDER. Prints a line for each, the slowest first: file, outcome, nanoseconds; then how much was
- * tried.
+/* climb --seconds N --seed S --runs R FOLDER: looks for single facts, in tasks of R runs, that the library is slow to
+ * solve, and writes the hardest as task files into FOLDER. Prints a line for each, the slowest first: file, outcome,
+ * nanoseconds; then how much was tried.
  *
  * A climb starts at a random task of one fact, makes a few changes at a time to its cells and steps, and goes on from
  * the changed task unless that is solved clearly faster than the slowest of this climb, so that it can cross a small
@@ -8,7 +8,8 @@
  * others start at a task that is kept, shaken, and can replace only that one. So the tasks that are kept come from
  * different random starts.
  *
- * climb-S-N.task comes from start N of seed S, and that is always the same random task. What is made of it depends on
+ * climb-S-N.task, with runsR- before it for several runs, comes from start N of seed S, and that is always the same
+ * random task. What is made of it depends on
  * which of two times is the longer: the same seed gives the same tasks as far as the times allow.
  *
  * A task's time is the least of a few solves, in processor time, since other work may run beside.
@@ -35,7 +36,7 @@ struct found {
 };
 
 static struct found kept[KEPT];
-static uint64_t seed, state, tries, climbs;
+static uint64_t seed, state, tries, climbs, runs;
 static double end;
 
 static double now(clockid_t clock) {
@@ -67,7 +68,17 @@ static void random_cells(uint64_t *set, size_t sixteenths) {
         set[a] = below(16) < sixteenths;
 }
 
-/* One fact; how dense its cells are, how many actions run and how many steps there are is drawn first. */
+/* A run whose start, goal, length and number of actions are drawn first. */
+static void random_run(uint64_t *task, size_t run) {
+    task[ZP_AT_STARTS + run] = below(2);
+    task[ZP_AT_GOALS + run] = below(2);
+    task[ZP_AT_COUNTS + run] = 1 + below(ZP_STEPS);
+    size_t running = 1 + below(ZP_ACTIONS);
+    for (size_t i = 0; i < task[ZP_AT_COUNTS + run]; i++)
+        task[ZP_AT_STEPS + ZP_STEPS * run + i] = below(running);
+}
+
+/* One fact; how dense its cells are is drawn first. */
 static void random_task(uint64_t *task) {
     memset(task, 0, ZP_TASK_WORDS * sizeof *task);
     task[ZP_AT_FACTS] = 1;
@@ -76,52 +87,50 @@ static void random_task(uint64_t *task) {
     random_cells(task + ZP_AT_NEEDS, below(12));
     random_cells(task + ZP_AT_ADDS, below(12));
     random_cells(task + ZP_AT_DELETES, below(12));
-    task[ZP_AT_START] = below(2);
-    task[ZP_AT_GOAL] = below(2);
-    task[ZP_AT_COUNT] = 1 + below(ZP_STEPS);
-    size_t running = 1 + below(ZP_ACTIONS);
-    for (size_t i = 0; i < task[ZP_AT_COUNT]; i++)
-        task[ZP_AT_STEPS + i] = below(running);
+    task[ZP_AT_MANY] = runs;
+    for (size_t run = 0; run < runs; run++)
+        random_run(task, run);
 }
 
-static void insert_step(uint64_t *task, size_t place, uint64_t action) {
-    uint64_t *step = task + ZP_AT_STEPS + place;
-    memmove(step + 1, step, (task[ZP_AT_COUNT] - place) * sizeof *step);
+static void insert_step(uint64_t *task, size_t run, size_t place, uint64_t action) {
+    uint64_t *count = task + ZP_AT_COUNTS + run, *step = task + ZP_AT_STEPS + ZP_STEPS * run + place;
+    memmove(step + 1, step, (*count - place) * sizeof *step);
     *step = action;
-    task[ZP_AT_COUNT]++;
+    ++*count;
 }
 
-static uint64_t drop_step(uint64_t *task, size_t place) {
-    uint64_t *step = task + ZP_AT_STEPS + place, action = *step;
-    task[ZP_AT_COUNT]--;
-    memmove(step, step + 1, (task[ZP_AT_COUNT] - place) * sizeof *step);
-    task[ZP_AT_STEPS + task[ZP_AT_COUNT]] = 0;
+static uint64_t drop_step(uint64_t *task, size_t run, size_t place) {
+    uint64_t *count = task + ZP_AT_COUNTS + run, *step = task + ZP_AT_STEPS + ZP_STEPS * run + place, action = *step;
+    --*count;
+    memmove(step, step + 1, (*count - place) * sizeof *step);
+    task[ZP_AT_STEPS + ZP_STEPS * run + *count] = 0;
     return action;
 }
 
 static void change_cell(uint64_t *task) {
     switch (below(8)) {
-    case 0: task[below(2) ? ZP_AT_START : ZP_AT_GOAL] ^= 1; break;
+    case 0: task[(below(2) ? ZP_AT_STARTS : ZP_AT_GOALS) + below(runs)] ^= 1; break;
     case 1: task[ZP_AT_ADDS + below(ZP_ACTIONS)] ^= 1; break;
     case 2: case 3: case 4: task[ZP_AT_NEEDS + below(ZP_ACTIONS)] ^= 1; break;
     default: task[ZP_AT_DELETES + below(ZP_ACTIONS)] ^= 1; break;
     }
 }
 
-/* A step more, one less, another action in a step, or a step moved; nothing where there is no room or no step. */
+/* In some run a step more, one less, another action in a step, or a step moved; nothing where there is no room or no
+ * step. */
 static void change_step(uint64_t *task) {
-    size_t count = task[ZP_AT_COUNT], sort = below(8);
+    size_t run = below(runs), count = task[ZP_AT_COUNTS + run], sort = below(8);
     if (sort < 2 && count < ZP_STEPS)
-        insert_step(task, below(count + 1), below(ZP_ACTIONS));
+        insert_step(task, run, below(count + 1), below(ZP_ACTIONS));
     if (sort < 2 || count == 0)
         return;
     if (sort < 3)
-        drop_step(task, below(count));
+        drop_step(task, run, below(count));
     else if (sort < 6)
-        task[ZP_AT_STEPS + below(count)] = below(ZP_ACTIONS);
+        task[ZP_AT_STEPS + ZP_STEPS * run + below(count)] = below(ZP_ACTIONS);
     else {
-        uint64_t action = drop_step(task, below(count));
-        insert_step(task, below(count), action);
+        uint64_t action = drop_step(task, run, below(count));
+        insert_step(task, run, below(count), action);
     }
 }
 
@@ -210,10 +219,12 @@ static void write_task(const char *folder, const struct found *f) {
     static uint8_t file[ZP_FILE_BYTES];
     uint64_t answer[ZP_REPLY_WORDS];
     unsigned long long from = seed, start = f->start, number = f->outcome[f->outcome[0] == 0 ? 2 : 0];
-    char path[4096];
+    char path[4096], sort[32] = "";
+    if (runs > 1)
+        snprintf(sort, sizeof sort, "runs%llu-", (unsigned long long)runs);
     if (zp_write(f->task, ZP_TASK_WORDS, file, ZP_FILE_BYTES, answer, ZP_REPLY_WORDS) != 0)
         exit(3);
-    snprintf(path, sizeof path, "%s/climb-%llu-%llu.task", folder, from, start);
+    snprintf(path, sizeof path, "%s/%sclimb-%llu-%llu.task", folder, sort, from, start);
     FILE *out = fopen(path, "wb");
     if (out == NULL || fwrite(file, 1, answer[2], out) != answer[2] || fclose(out) != 0)
         exit(2);
@@ -221,11 +232,13 @@ static void write_task(const char *folder, const struct found *f) {
 }
 
 int main(int count, char **word) {
-    if (count != 6 || strcmp(word[1], "--seconds") != 0 || strcmp(word[3], "--seed") != 0) {
-        fprintf(stderr, "climb --seconds N --seed S FOLDER\n");
+    if (count != 8 || strcmp(word[1], "--seconds") != 0 || strcmp(word[3], "--seed") != 0 ||
+        strcmp(word[5], "--runs") != 0 || strtoull(word[6], NULL, 10) - 1 >= ZP_RUNS) {
+        fprintf(stderr, "climb --seconds N --seed S --runs R FOLDER\n");
         return 1;
     }
     seed = strtoull(word[4], NULL, 10);
+    runs = strtoull(word[6], NULL, 10);
     end = now(CLOCK_MONOTONIC) + 1e9 * strtod(word[2], NULL);
     for (uint64_t start = 0; !time_is_up(); start++) {
         climb_afresh(start);
@@ -233,7 +246,7 @@ int main(int count, char **word) {
     }
     qsort(kept, KEPT, sizeof *kept, slower);
     for (struct found *k = kept; k < kept + KEPT && k->time > 0; k++)
-        write_task(word[5], k);
+        write_task(word[7], k);
     printf("%llu tasks solved in %llu climbs\n", (unsigned long long)tries, (unsigned long long)climbs);
     return 0;
 }

@@ -1,5 +1,6 @@
 """The tasks that are timed: made by the second program and here, stored in benchmark/hard, or climbed to."""
 
+import collections
 import re
 import shutil
 
@@ -9,7 +10,8 @@ from to_asp import BODY
 TASKS = OUT / "tasks"
 CLIMBED = OUT / "climbed"
 STORED = HERE / "hard"
-KEPT = 8  # how many are stored
+KEPT = 8  # how many are stored of each sort: of one run, and of eight
+RUNS = 8  # the most that there can be
 
 
 def tasks_in(folder):
@@ -21,32 +23,47 @@ def made(seed):
     said(SECOND, "hard", "--seed", seed, TASKS)
     hardest = max(TASKS.glob("deep-*"), key=tree)
     (TASKS / f"worst-64-facts-tree-{tree(hardest)}.task").write_bytes(on_all_facts(hardest.read_bytes()))
-    (TASKS / "worst-file.task").write_bytes(largest_file())
+    (TASKS / "worst-file.task").write_bytes(largest_file(RUNS))
+    (TASKS / "worst-one-run.task").write_bytes(largest_file(1))
     return tasks_in(TASKS)
 
 
-def climbed(seconds, seed):
-    """Single facts that the library is slow on, found in so many seconds, and what climb.c prints: a line for each, the
-    slowest first, and how much was tried."""
+def forget_climbed():
     shutil.rmtree(CLIMBED, ignore_errors=True)
     CLIMBED.mkdir()
-    lines = said(CLIMB, "--seconds", seconds, "--seed", seed, CLIMBED).decode().splitlines()
-    (CLIMBED / "listing.txt").write_text("\n".join(lines) + "\n")
-    return tasks_in(CLIMBED), lines
+
+
+def climbed(seconds, seed, runs):
+    """Looks so many seconds for single facts, in tasks of so many runs, that the library is slow on. Gives what climb.c
+    prints: a line for each, the slowest first, and how much was tried."""
+    lines = said(CLIMB, "--seconds", seconds, "--seed", seed, "--runs", runs, CLIMBED).decode().splitlines()
+    (CLIMBED / f"listing-{runs}.txt").write_text("\n".join(lines) + "\n")
+    return lines
 
 
 def store_hardest():
-    """The hardest of the stored and the climbed tasks become the stored ones; of two from one start, the harder."""
+    """The hardest of the stored and the climbed tasks of each sort become the stored ones; of two from one start, the
+    harder."""
     STORED.mkdir(exist_ok=True)
     paths = tasks_in(STORED) + tasks_in(CLIMBED)
     library = library_times(paths)
     paths.sort(key=lambda p: library[p]["solve"])
     files = {p.name: p.read_bytes() for p in paths}
-    names = list(dict.fromkeys(p.name for p in reversed(paths)))[:KEPT]
+    sorts = collections.defaultdict(list)
+    for name in dict.fromkeys(p.name for p in reversed(paths)):
+        sorts[name.split("climb")[0]].append(name)
     for p in tasks_in(STORED):
         p.unlink()
-    for name in names:
+    for name in (name for names in sorts.values() for name in names[:KEPT]):
         (STORED / name).write_bytes(files[name])
+
+
+def of_one_run(hard):
+    return [p for p in hard if p.stem.startswith("climb")]
+
+
+def of_eight_runs(hard):
+    return [p for p in hard if not p.stem.startswith("climb")]
 
 
 def on_all_facts(file):
@@ -64,11 +81,12 @@ def on_all_facts(file):
     return out
 
 
-def largest_file():
-    """All cells present, 64 steps: 18,821 bytes."""
-    cells = [bytes([kind, f]) for kind in (2, 3) for f in range(64)]
-    cells += [bytes([kind, a, f]) for kind in (4, 5, 6) for a in range(32) for f in range(64)]
-    return bytes([1, 64, 32, LIMIT]) + b"".join(cells) + bytes([7, 31]) * 64 + b"\x08"
+def largest_file(runs):
+    """All cells present, 64 steps a run: 21,516 bytes with eight runs, 18,821 with one."""
+    ends = b"".join(bytes([kind, f]) for kind in (2, 3) for f in range(64))
+    cells = b"".join(bytes([kind, a, f]) for kind in (4, 5, 6) for a in range(32) for f in range(64))
+    steps = bytes([7, 31]) * 64
+    return bytes([1, 64, 32, LIMIT]) + ends + cells + steps + (b"\x09" + ends + steps) * (runs - 1) + b"\x08"
 
 
 def tree(path):

@@ -86,10 +86,17 @@ def asp_times(facts, *encoding):
     ground.write_bytes(said(*gringo))
     clasp = ["clasp", "--opt-strategy=usc", "--quiet=1", ground]
     text = subprocess.run([*clasp, "--stats"], stdout=subprocess.PIPE).stdout.decode()
-    found = re.search(r"^Optimization : (\d+)", text, re.M)
-    optimum = int(found[1]) if found else None
+    optimum = least_repairs(text)
     outcome = "refused-9" if optimum is None else f"set-{optimum}" if optimum <= LIMIT else "refused-10"
     return Asp(least_time(gringo), least_time(clasp), optimum, outcome)
+
+
+def least_repairs(text):
+    """What clasp says is the least number of repairs, if there is one; it names none where none could be chosen."""
+    found = re.search(r"^Optimization : (\d+)", text, re.M)
+    if found:
+        return int(found[1])
+    return None if "UNSATISFIABLE" in text else 0
 
 
 def driver_listings(paths):

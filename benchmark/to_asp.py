@@ -3,22 +3,28 @@
 
 import sys
 
-STEP, END = 7, 8
-BODY = {1: 3, 2: 1, 3: 1, 4: 2, 5: 2, 6: 2, 7: 1, 8: 0}
-NAMES = {2: "start", 3: "goal", 4: "need", 5: "add", 6: "del"}
+START, GOAL, STEP, END, RUN = 2, 3, 7, 8, 9
+BODY = {1: 3, START: 1, GOAL: 1, 4: 2, 5: 2, 6: 2, STEP: 1, END: 0, RUN: 0}
+CELLS = {4: "need", 5: "add", 6: "del"}
+ENDS = {START: "start", GOAL: "goal"}
 
 
 def facts_of(file):
-    at, steps, lines = 0, 0, []
+    at, steps, lines = 0, [0], []  # how many steps each run has
     while file[at] != END:
         kind, body = file[at], file[at + 1 : at + 1 + BODY[file[at]]]
         at += 1 + BODY[kind]
-        if kind in NAMES:
-            lines.append(f"{NAMES[kind]}({','.join(map(str, body))}).")
+        run = len(steps) - 1
+        if kind in CELLS:
+            lines.append(f"{CELLS[kind]}({body[0]},{body[1]}).")
+        elif kind in ENDS:
+            lines.append(f"{ENDS[kind]}({run},{body[0]}).")
         elif kind == STEP:
-            steps += 1
-            lines.append(f"step({steps},{body[0]}).")
-    return "\n".join(lines + [f"steps({steps}).", ""])
+            steps[run] += 1
+            lines.append(f"step({run},{steps[run]},{body[0]}).")
+        elif kind == RUN:
+            steps.append(0)
+    return "\n".join(lines + [f"steps({run},{count})." for run, count in enumerate(steps)] + [""])
 
 
 if __name__ == "__main__":

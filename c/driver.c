@@ -128,7 +128,7 @@ static void make(struct request *q) {
     uint64_t a[ZP_TASK_ANSWER_WORDS];
     static uint8_t text[ZP_LISTING_BYTES];
     /* the task's words, and what stands behind them */
-    size_t more = q->op == EDIT ? 4 : q->op == LIST ? 1 : 0;
+    size_t more = q->op == EDIT ? 4 : q->op == CHECK || q->op == LIST ? 1 : 0;
     size_t task = q->words < more ? 0 : q->words - more;
     memset(a, 0, sizeof a);
     switch (q->op) {
@@ -145,7 +145,7 @@ static void make(struct request *q) {
         answer(a, ZP_REPLY_WORDS, q->byte, q->bytes);
         break;
     case CHECK:
-        zp_check(q->word, task, a, ZP_CHECKED_WORDS);
+        zp_check(q->word, task, word_at(q, task), a, ZP_CHECKED_WORDS);
         answer(a, ZP_CHECKED_WORDS, NULL, 0);
         break;
     case APPLY:

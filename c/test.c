@@ -1,5 +1,6 @@
-/* A small test of each function of the header: 01's 36-byte file through every call, the order of the parameters, short
- * rooms and short answers, empty slices and wrong lengths. It prints what fails and ends with status 1 if anything did. */
+/* A small test of each function of the header: 01's 36-byte file through every call, the order of the parameters, several
+ * runs, short rooms and short answers, empty slices and wrong lengths. It prints what fails and ends with status 1 if
+ * anything did. */
 #include <stdio.h>
 #include <string.h>
 
@@ -46,6 +47,11 @@ static int is_changed(size_t number, size_t place) {
     return answer[0] == number && answer[1] == place && kept(ZP_CHANGED_WORDS);
 }
 
+static int is_checked(size_t number, size_t total, size_t step, size_t fact) {
+    return answer[0] == number && answer[1] == 0 && answer[2] == total && answer[3] == step && answer[4] == fact &&
+           kept(ZP_CHECKED_WORDS);
+}
+
 /* The task's words anew, to be changed. */
 static uint64_t *lend(void) {
     memcpy(lent, task, sizeof task);
@@ -79,12 +85,13 @@ static int halves_kept(const uint16_t *room, size_t length) {
 
 static void read_and_records(void) {
     expect(zp_read(file, sizeof file, fresh(), ZP_TASK_ANSWER_WORDS) == 0, "read: accepted");
-    expect(answer[0] == 0 && answer[1] == 0 && kept(ZP_TASK_ANSWER_WORDS), "read: 0, 0 and 166 words");
+    expect(answer[0] == 0 && answer[1] == 0 && kept(ZP_TASK_ANSWER_WORDS), "read: 0, 0 and 636 words");
     memcpy(task, answer + 2, sizeof task);
     expect(task[ZP_AT_FACTS] == 4 && task[ZP_AT_ACTIONS] == 3 && task[ZP_AT_LIMIT] == 3, "read: sizes");
     expect(task[ZP_AT_NEEDS] == 1 && task[ZP_AT_NEEDS + 1] == 2 && task[ZP_AT_NEEDS + 2] == 6, "read: needs");
     expect(task[ZP_AT_ADDS] == 2 && task[ZP_AT_ADDS + 2] == 8 && task[ZP_AT_DELETES + 1] == 2, "read: effects");
-    expect(task[ZP_AT_START] == 1 && task[ZP_AT_GOAL] == 8 && task[ZP_AT_COUNT] == 3, "read: run");
+    expect(task[ZP_AT_MANY] == 1 && task[ZP_AT_STARTS] == 1 && task[ZP_AT_GOALS] == 8 && task[ZP_AT_COUNTS] == 3,
+           "read: run");
     expect(task[ZP_AT_STEPS + 1] == 1 && task[ZP_AT_STEPS + 2] == 2 && task[ZP_AT_STEPS + 3] == 0, "read: steps");
     expect(zp_read(file, 35, fresh(), ZP_TASK_ANSWER_WORDS) == 1 && answer[1] == 35 && answer[2] == 0, "read: 1 at 35");
     expect(zp_read(NULL, 0, fresh(), ZP_TASK_ANSWER_WORDS) == 1 && answer[1] == 0, "read: nothing is 1 at 0");
@@ -107,10 +114,8 @@ static void order_of_reading_and_writing(void) {
     expect(zp_write(task, ZP_TASK_WORDS, room, sizeof room, fresh(), ZP_REPLY_WORDS) == 0, "order: write");
     expect(is_reply(0, 0, 36) && memcmp(room, file, sizeof file) == 0 && bytes_kept(room + 36, 4),
            "order: write, task before room before answer");
-    expect(zp_check(lend(), ZP_TASK_WORDS, fresh(), ZP_CHECKED_WORDS) == 0, "order: check");
-    expect(answer[0] == 0 && answer[1] == 0 && answer[2] == 2 && answer[3] == 3 && answer[4] == 1 &&
-               kept(ZP_CHECKED_WORDS) && as_lent(),
-           "order: check, task before answer");
+    expect(zp_check(lend(), ZP_TASK_WORDS, 0, fresh(), ZP_CHECKED_WORDS) == 0, "order: check");
+    expect(is_checked(0, 2, 3, 1) && as_lent(), "order: check, task before run before answer");
 }
 
 static void order_of_changing(void) {
@@ -125,7 +130,7 @@ static void order_of_changing(void) {
     expect(zp_edit(lend(), ZP_TASK_WORDS, ZP_NEED, 2, 3, 1, table, ZP_TABLE_NUMBERS, fresh(), ZP_CHANGED_WORDS) == 0,
            "order: edit");
     expect(is_changed(0, 0) && differs_at(ZP_AT_NEEDS + 2, 14),
-           "order: edit, kind before action before fact before present");
+           "order: edit, kind before whose before fact before present");
     expect(table[21] == 1 && table[22] == 288 + 32 && table[8] == 97, "order: edit, the row of the fact");
 }
 
@@ -165,16 +170,16 @@ static void short_answers(size_t missing) {
     lend();
     expect(too_short(zp_record(file, 36, 8, answer, less(ZP_RECORD_WORDS, missing))), "short answer: record");
     expect(too_short(zp_read(file, 36, answer, less(ZP_TASK_ANSWER_WORDS, missing))), "short answer: read");
-    expect(too_short(zp_write(lent, 166, bytes, 40, answer, reply)), "short answer: write");
-    expect(too_short(zp_check(lent, 166, answer, less(ZP_CHECKED_WORDS, missing))), "short answer: check");
-    expect(too_short(zp_apply(lent, 166, table, 0, answer, changed)), "short answer: apply");
-    expect(too_short(zp_solve(lent, 166, room, 8, answer, reply)), "short answer: solve");
-    expect(too_short(zp_open(lent, 166, table, 448, answer, reply)), "short answer: open");
-    expect(too_short(zp_edit(lent, 166, ZP_NEED, 2, 3, 1, table, 448, answer, changed)), "short answer: edit");
-    expect(too_short(zp_list(lent, 166, table, 448, room, 8, answer, reply)), "short answer: list");
+    expect(too_short(zp_write(lent, 636, bytes, 40, answer, reply)), "short answer: write");
+    expect(too_short(zp_check(lent, 636, 0, answer, less(ZP_CHECKED_WORDS, missing))), "short answer: check");
+    expect(too_short(zp_apply(lent, 636, table, 0, answer, changed)), "short answer: apply");
+    expect(too_short(zp_solve(lent, 636, room, 8, answer, reply)), "short answer: solve");
+    expect(too_short(zp_open(lent, 636, table, 448, answer, reply)), "short answer: open");
+    expect(too_short(zp_edit(lent, 636, ZP_NEED, 2, 3, 1, table, 448, answer, changed)), "short answer: edit");
+    expect(too_short(zp_list(lent, 636, table, 448, room, 8, answer, reply)), "short answer: list");
     expect(too_short(zp_listing(file, 36, bytes, 40, answer, reply)), "short answer: listing");
-    expect(too_short(zp_solve(lent, 165, room, 0, answer, reply)), "short answer: before 12");
-    expect(too_short(zp_edit(lent, 165, 9, 9, 9, 9, table, 3, answer, changed)), "short answer: before 12, 13 and 14");
+    expect(too_short(zp_solve(lent, 635, room, 0, answer, reply)), "short answer: before 12");
+    expect(too_short(zp_edit(lent, 635, 9, 9, 9, 9, table, 3, answer, changed)), "short answer: before 12, 13 and 14");
     expect(bytes_kept(bytes, 40) && halves_kept(room, 8) && halves_kept(table, 448) && as_lent() && kept(0),
            "short answer: nothing lent is touched");
 }
@@ -183,14 +188,14 @@ static void write_and_check(void) {
     uint8_t room[40];
     memset(room, UNTOUCHED, sizeof room);
     expect(zp_write(task, ZP_TASK_WORDS, room, 35, fresh(), ZP_REPLY_WORDS) == 11 && is_reply(11, 0, 0), "write: short room");
-    expect(zp_write(task, 165, room, 35, fresh(), ZP_REPLY_WORDS) == 12 && is_reply(12, 0, 0), "write: 165 words");
-    expect(zp_write(task, 165, NULL, 0, fresh(), ZP_REPLY_WORDS) == 12, "write: 12 before 11");
+    expect(zp_write(task, 635, room, 35, fresh(), ZP_REPLY_WORDS) == 12 && is_reply(12, 0, 0), "write: 635 words");
+    expect(zp_write(task, 635, NULL, 0, fresh(), ZP_REPLY_WORDS) == 12, "write: 12 before 11");
     expect(zp_write(task, ZP_TASK_WORDS, NULL, 0, fresh(), ZP_REPLY_WORDS) == 11, "write: no room");
     expect(bytes_kept(room, sizeof room), "write: a refusal writes nothing");
-    expect(zp_check(NULL, 0, fresh(), ZP_CHECKED_WORDS) == 12 && answer[1] == 0 && answer[2] == 0, "check: no task");
-    expect(zp_check(NULL, 0, NULL, 0) == ZP_ANSWER_TOO_SHORT, "check: nothing lent");
+    expect(zp_check(NULL, 0, 0, fresh(), ZP_CHECKED_WORDS) == 12 && answer[1] == 0 && answer[2] == 0, "check: no task");
+    expect(zp_check(NULL, 0, 0, NULL, 0) == ZP_ANSWER_TOO_SHORT, "check: nothing lent");
     lend()[ZP_AT_STEPS] = 256;
-    expect(zp_check(lent, ZP_TASK_WORDS, fresh(), ZP_CHECKED_WORDS) == 12, "check: step 256 is no action");
+    expect(zp_check(lent, ZP_TASK_WORDS, 0, fresh(), ZP_CHECKED_WORDS) == 12, "check: step 256 is no action");
 }
 
 static void solve_and_apply(void) {
@@ -204,14 +209,14 @@ static void solve_and_apply(void) {
     zp_solve(task, ZP_TASK_WORDS, room, 8, fresh(), ZP_REPLY_WORDS);
     expect(zp_apply(lend(), ZP_TASK_WORDS, room, 2, fresh(), ZP_CHANGED_WORDS) == 0 && is_changed(0, 0), "apply: accepted");
     expect(lent[ZP_AT_DELETES + 1] == 0 && lent[ZP_AT_ADDS] == 6, "apply: both cells");
-    expect(zp_check(lent, ZP_TASK_WORDS, fresh(), ZP_CHECKED_WORDS) == 0 && answer[2] == 0, "apply: the run is valid");
+    expect(zp_check(lent, ZP_TASK_WORDS, 0, fresh(), ZP_CHECKED_WORDS) == 0 && answer[2] == 0, "apply: the run is valid");
     expect(zp_apply(lend(), ZP_TASK_WORDS, NULL, 0, fresh(), ZP_CHANGED_WORDS) == 0 && as_lent(), "apply: no repairs");
     expect(zp_apply(lend(), ZP_TASK_WORDS, room + 1, 2, fresh(), ZP_CHANGED_WORDS) == 15 && is_changed(15, 1),
            "apply: 15 at 1");
     expect(as_lent(), "apply: 15 leaves the task's words");
-    expect(zp_apply(lend(), 165, room, 2, fresh(), ZP_CHANGED_WORDS) == 12 && is_changed(12, 0), "apply: 165 words");
-    expect(as_lent(), "apply: 165 words are left as they were");
-    expect(zp_apply(lend(), 167, room, 2, fresh(), ZP_CHANGED_WORDS) == 12 && as_lent(), "apply: so are 167");
+    expect(zp_apply(lend(), 635, room, 2, fresh(), ZP_CHANGED_WORDS) == 12 && is_changed(12, 0), "apply: 635 words");
+    expect(as_lent(), "apply: 635 words are left as they were");
+    expect(zp_apply(lend(), 637, room, 2, fresh(), ZP_CHANGED_WORDS) == 12 && as_lent(), "apply: so are 637");
     lend()[ZP_AT_STEPS] = 300;
     expect(zp_apply(lent, ZP_TASK_WORDS, room, 2, fresh(), ZP_CHANGED_WORDS) == 12 && is_changed(12, 0), "apply: step 300");
     expect(differs_at(ZP_AT_STEPS, 300), "apply: step 300 is left as it was");
@@ -261,17 +266,89 @@ static void refused_edits(void) {
     expect(zp_edit(lend(), ZP_TASK_WORDS, ZP_DELETE, 3, 1, 0, table, 447, fresh(), ZP_CHANGED_WORDS) == 13,
            "edit: 447 numbers, before 14");
     expect(is_changed(13, 0) && as_lent(), "edit: 13 leaves the task's words");
-    expect(zp_edit(lend(), 165, ZP_DELETE, 3, 1, 0, table, 447, fresh(), ZP_CHANGED_WORDS) == 12,
-           "edit: 165 words, before 13 and 14");
-    expect(is_changed(12, 0) && as_lent(), "edit: 165 words are left as they were");
+    expect(zp_edit(lend(), 635, ZP_DELETE, 3, 1, 0, table, 447, fresh(), ZP_CHANGED_WORDS) == 12,
+           "edit: 635 words, before 13 and 14");
+    expect(is_changed(12, 0) && as_lent(), "edit: 635 words are left as they were");
     lend()[ZP_AT_STEPS + 1] = 300;
     expect(zp_edit(lent, ZP_TASK_WORDS, ZP_DELETE, 1, 1, 0, table, 448, fresh(), ZP_CHANGED_WORDS) == 12, "edit: step 300");
     expect(is_changed(12, 0) && differs_at(ZP_AT_STEPS + 1, 300), "edit: step 300 is left as it was");
     expect(halves_kept(table, 448), "edit: a refusal leaves the table");
 }
 
+/* The file with a further run: action 2 from facts 1 and 2 to fact 3. */
+static const uint8_t two_runs[46] = {1, 4, 3, 3, 2, 0, 3, 3, 4, 0, 0, 4, 1, 1, 4, 2, 1, 4, 2, 2, 5, 0, 1,
+                                     5, 2, 3, 6, 1, 1, 7, 0, 7, 1, 7, 2, 9, 2, 1, 2, 2, 3, 3, 7, 2, 8, 0};
+
+static void reading_runs(void) {
+    uint8_t room[50], ninth[13] = {1, 1, 1, 0, 9, 9, 9, 9, 9, 9, 9, 9, 8};
+    memset(room, UNTOUCHED, sizeof room);
+    expect(zp_read(two_runs, 45, fresh(), ZP_TASK_ANSWER_WORDS) == 0, "runs: read");
+    memcpy(task, answer + 2, sizeof task);
+    expect(task[ZP_AT_MANY] == 2 && task[ZP_AT_STARTS + 1] == 6 && task[ZP_AT_GOALS + 1] == 8, "runs: start and goal");
+    expect(task[ZP_AT_COUNTS + 1] == 1 && task[ZP_AT_STEPS + ZP_STEPS] == 2 && task[ZP_AT_STEPS + 2] == 2, "runs: steps");
+    expect(zp_write(task, ZP_TASK_WORDS, room, 45, fresh(), ZP_REPLY_WORDS) == 0 && is_reply(0, 0, 45), "runs: written");
+    expect(memcmp(room, two_runs, 45) == 0 && bytes_kept(room + 45, 5), "runs: the file again");
+    expect(zp_read(two_runs, 46, fresh(), ZP_TASK_ANSWER_WORDS) == 8 && answer[1] == 45, "runs: a byte after the end");
+    expect(zp_record(two_runs, 45, 35, fresh(), ZP_RECORD_WORDS) == 0 && answer[2] == 9 && answer[4] == 0 &&
+               answer[5] == 36,
+           "runs: the record of kind 9");
+    expect(zp_read(ninth, sizeof ninth, fresh(), ZP_TASK_ANSWER_WORDS) == 16 && answer[1] == 11 &&
+               answer[2 + ZP_AT_MANY] == 0,
+           "runs: a ninth is 16 at its kind byte");
+    ninth[4] = 8;
+    expect(zp_read(ninth, 5, fresh(), ZP_TASK_ANSWER_WORDS) == 0 && answer[2 + ZP_AT_MANY] == 1, "runs: one needs no kind 9");
+}
+
+static void checking_runs(void) {
+    expect(zp_check(task, ZP_TASK_WORDS, 0, fresh(), ZP_CHECKED_WORDS) == 0 && is_checked(0, 2, 3, 1), "runs: check of run 0");
+    expect(zp_check(task, ZP_TASK_WORDS, 1, fresh(), ZP_CHECKED_WORDS) == 0 && is_checked(0, 0, 0, 0), "runs: check of run 1");
+    lend()[ZP_AT_STARTS + 1] = 2;
+    expect(zp_check(lent, ZP_TASK_WORDS, 1, fresh(), ZP_CHECKED_WORDS) == 0 && is_checked(0, 1, 1, 2), "runs: its own start");
+    expect(zp_check(task, ZP_TASK_WORDS, 2, fresh(), ZP_CHECKED_WORDS) == 14 && is_checked(14, 0, 0, 0), "runs: no run 2");
+    expect(zp_check(task, ZP_TASK_WORDS, (size_t)-1, fresh(), ZP_CHECKED_WORDS) == 14, "runs: any number of a run");
+    expect(zp_check(task, 635, 2, fresh(), ZP_CHECKED_WORDS) == 12, "runs: 12 before 14");
+    lend()[ZP_AT_MANY] = 1;
+    expect(zp_check(lent, ZP_TASK_WORDS, 0, fresh(), ZP_CHECKED_WORDS) == 12, "runs: an unused run with numbers");
+    lend()[ZP_AT_MANY] = 9;
+    expect(zp_check(lent, ZP_TASK_WORDS, 0, fresh(), ZP_CHECKED_WORDS) == 12, "runs: nine");
+}
+
+/* Fact 2 of run 1's start: run 0 does not have it, and it keeps what it has. */
+static void editing_runs(void) {
+    uint16_t table[ZP_TABLE_NUMBERS], room[6];
+    zp_open(task, ZP_TASK_WORDS, table, ZP_TABLE_NUMBERS, fresh(), ZP_REPLY_WORDS);
+    expect(table[14] == 1 && table[15] == 224, "runs: the row of fact 2");
+    expect(zp_edit(lend(), ZP_TASK_WORDS, ZP_START, 1, 2, 0, table, ZP_TABLE_NUMBERS, fresh(), ZP_CHANGED_WORDS) == 0,
+           "runs: edit");
+    expect(is_changed(0, 0) && differs_at(ZP_AT_STARTS + 1, 2), "runs: the start of run 1 and of no other");
+    expect(table[14] == 1 && table[15] == 258, "runs: a row is over all runs");
+    expect(zp_list(lent, ZP_TASK_WORDS, table, ZP_TABLE_NUMBERS, room, 6, fresh(), ZP_REPLY_WORDS) == 0 &&
+               is_reply(0, 0, 2) && room[0] == 97 && room[1] == 258,
+           "runs: the list");
+    expect(zp_solve(lent, ZP_TASK_WORDS, room, 6, fresh(), ZP_REPLY_WORDS) == 0 && is_reply(0, 0, 2) && room[1] == 258,
+           "runs: solved over both");
+    expect(zp_edit(lend(), ZP_TASK_WORDS, ZP_GOAL, 0, 2, 1, table, ZP_TABLE_NUMBERS, fresh(), ZP_CHANGED_WORDS) == 0 &&
+               differs_at(ZP_AT_GOALS, 12),
+           "runs: the goal of run 0 and of no other");
+    expect(zp_edit(lend(), ZP_TASK_WORDS, ZP_START, 2, 2, 0, table, ZP_TABLE_NUMBERS, fresh(), ZP_CHANGED_WORDS) == 14 &&
+               is_changed(14, 0) && as_lent(),
+           "runs: no start of run 2");
+    expect(zp_edit(lend(), ZP_TASK_WORDS, ZP_NEED, 2, 2, 1, table, ZP_TABLE_NUMBERS, fresh(), ZP_CHANGED_WORDS) == 0 &&
+               as_lent(),
+           "runs: a need names an action");
+}
+
+static void listing_runs(void) {
+    static const char text[] =
+        "task 4 3 3 4\nopen 2 3 1\nopen 0 0 0\nset 2\ndrop-delete 1 1\nadd-effect 0 2\nend\n";
+    uint8_t letters[ZP_LISTING_BYTES];
+    expect(zp_listing(two_runs, 45, letters, sizeof letters, fresh(), ZP_REPLY_WORDS) == 0 &&
+               is_reply(0, 0, sizeof text - 1) && memcmp(letters, text, sizeof text - 1) == 0,
+           "runs: one open line each");
+}
+
 static void listing(void) {
-    uint8_t room[600];
+    uint8_t room[1000];
     memset(room, UNTOUCHED, sizeof room);
     expect(zp_listing(file, sizeof file, room, 3, fresh(), ZP_REPLY_WORDS) == 11 && is_reply(11, 0, 0), "listing: short room");
     expect(bytes_kept(room, sizeof room), "listing: a refusal writes nothing");
@@ -294,6 +371,10 @@ int main(void) {
     session();
     refused_edits();
     listing();
+    reading_runs();
+    checking_runs();
+    editing_runs();
+    listing_runs();
     printf(failures == 0 ? "c: every expectation holds\n" : "c: %d expectations failed\n", failures);
     return failures != 0;
 }

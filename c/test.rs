@@ -59,7 +59,8 @@ fn files(task: &mut [u64; TASK_WORDS]) -> i32 {
     }
     failed += expect(record(&FILE, 8, &mut answer) == 0 && opens(&answer, &[0, 0, 4, 9, 2, 11]), "record");
     failed += expect(write_file(task, &mut room, &mut answer) && opens(&room, &FILE), "write");
-    failed += expect(check(task, &mut answer) == 0 && opens(&answer, &[0, 0, 2, 3, 1]), "check");
+    failed += expect(check(task, 0, &mut answer) == 0 && opens(&answer, &[0, 0, 2, 3, 1]), "check");
+    failed += expect(check(task, 1, &mut answer) == 14 && opens(&answer, &[14, 0, 0, 0, 0]), "check: no such run");
     failed + expect(read(&FILE, &mut []) == ANSWER_TOO_SHORT, "an answer without room")
 }
 
@@ -93,10 +94,36 @@ fn session(task: &mut [u64; TASK_WORDS]) -> i32 {
     failed + expect(task.iter().zip(&as_read).filter(|(a, b)| a != b).count() == 1 && task[NEEDS_OF_2] == 14, "edit: the cell")
 }
 
+/// The file with a further run: action 2 from facts 1 and 2 to fact 3.
+const TWO_RUNS: [u8; 45] = [
+    1, 4, 3, 3, 2, 0, 3, 3, 4, 0, 0, 4, 1, 1, 4, 2, 1, 4, 2, 2, 5, 0, 1, 5, 2, 3, 6, 1, 1, 7, 0, 7, 1, 7, 2, 9, 2, 1, 2, 2,
+    3, 3, 7, 2, 8,
+];
+
+/// Where the start of run 1 stands among a task's words.
+const START_OF_1: usize = 101;
+
+fn runs() -> i32 {
+    let (mut answer, mut table) = ([7; TASK_ANSWER_WORDS], [7; TABLE_NUMBERS]);
+    let mut task = [0; TASK_WORDS];
+    let mut failed = expect(read(&TWO_RUNS, &mut answer) == 0, "runs: read");
+    for (word, read) in task.iter_mut().zip(answer.iter().skip(2)) {
+        *word = *read;
+    }
+    let as_read = task;
+    failed += expect(check(&task, 0, &mut answer) == 0 && opens(&answer, &[0, 0, 2, 3, 1]), "runs: check of run 0");
+    failed += expect(check(&task, 1, &mut answer) == 0 && opens(&answer, &[0, 0, 0, 0, 0]), "runs: check of run 1");
+    failed += expect(check(&task, 2, &mut answer) == 14, "runs: no run 2");
+    failed += expect(open(&task, &mut table, &mut answer) == 0, "runs: open");
+    failed += expect(edit(&mut task, START, 1, 2, 0, &mut table, &mut answer) == 0, "runs: edit");
+    failed += expect(task.iter().zip(&as_read).filter(|(a, b)| a != b).count() == 1 && task[START_OF_1] == 2, "runs: the start");
+    failed + expect(edit(&mut task, GOAL, 2, 2, 0, &mut table, &mut answer) == 14, "runs: no goal of run 2")
+}
+
 #[no_mangle]
 pub extern "C" fn main() -> i32 {
     let mut task = [0; TASK_WORDS];
-    let failed = files(&mut task) + lists(&task) + session(&mut task);
+    let failed = files(&mut task) + lists(&task) + session(&mut task) + runs();
     say(if failed == 0 { "rust: every expectation holds\n" } else { "rust: expectations failed\n" });
     i32::from(failed != 0)
 }

@@ -4,16 +4,17 @@
  * a pointer without `const` may be written as far as its length, and must not overlap what another argument lends.
  * Nothing is kept after the call, nothing is allocated, and every call ends and is safe for any contents and lengths.
  *
- * A task crosses as ZP_TASK_WORDS words, in the order of the ZP_AT_ places. Any 166 words are a task, well formed or
- * not; a step above 255 counts as 255. Another number of words is refused with 12, place 0, as the task of zeros.
+ * A task crosses as ZP_TASK_WORDS words, in the order of the ZP_AT_ places. Any 636 words are a task, well formed or
+ * not; a step above 255 counts as 255. Another number of words is refused with 12, place 0, as the task of zeros. Runs
+ * are counted from 0.
  * zp_apply and zp_edit change the task in the words that it is lent in; a refused call leaves them exactly as they were,
  * whatever they were and however many.
  *
- * An answer crosses as words in `answer`: the number (0, or the refusal of 01's table) and the place first, then what
- * the call gives. One rule: if `answer` has fewer words than the call's answer, nothing is called: ZP_ANSWER_TOO_SHORT
- * is returned and nothing of what was lent is touched, `answer` included. Otherwise the call is made, its words are
- * written from the first on, nothing beside, and the first of them is returned. The answer's words are the one thing
- * that a refused call writes.
+ * An answer crosses as words in `answer`: the number (0, or the refusal of 01's table and of 02) and the place first,
+ * then what the call gives. One rule: if `answer` has fewer words than the call's answer, nothing is called:
+ * ZP_ANSWER_TOO_SHORT is returned and nothing of what was lent is touched, `answer` included. Otherwise the call is made,
+ * its words are written from the first on, nothing beside, and the first of them is returned. The answer's words are the
+ * one thing that a refused call writes.
  */
 #ifndef ZERNOPLYSK_H
 #define ZERNOPLYSK_H
@@ -27,7 +28,8 @@ extern "C" {
 
 enum {
     ZP_ACTIONS = 32,
-    ZP_STEPS = 64,
+    ZP_STEPS = 64,                                /* of each run */
+    ZP_RUNS = 8,
 
     /* Where the parts of a task stand among its words. */
     ZP_AT_FACTS = 0,
@@ -36,13 +38,14 @@ enum {
     ZP_AT_NEEDS = 3,                              /* a mask of facts for each of the 32 actions */
     ZP_AT_ADDS = ZP_AT_NEEDS + ZP_ACTIONS,
     ZP_AT_DELETES = ZP_AT_ADDS + ZP_ACTIONS,
-    ZP_AT_START = ZP_AT_DELETES + ZP_ACTIONS,     /* a mask of facts */
-    ZP_AT_GOAL = ZP_AT_START + 1,                 /* a mask of facts */
-    ZP_AT_COUNT = ZP_AT_GOAL + 1,                 /* how many steps */
-    ZP_AT_STEPS = ZP_AT_COUNT + 1,                /* an action for each of the 64 places */
-    ZP_TASK_WORDS = ZP_AT_STEPS + ZP_STEPS,
+    ZP_AT_MANY = ZP_AT_DELETES + ZP_ACTIONS,      /* how many runs, 1 to 8; everything for unused ones is zero */
+    ZP_AT_STARTS = ZP_AT_MANY + 1,                /* a mask of facts for each of the 8 runs */
+    ZP_AT_GOALS = ZP_AT_STARTS + ZP_RUNS,         /* a mask of facts for each run */
+    ZP_AT_COUNTS = ZP_AT_GOALS + ZP_RUNS,         /* how many steps each run has */
+    ZP_AT_STEPS = ZP_AT_COUNTS + ZP_RUNS,         /* 64 places a run; run i's from ZP_STEPS * i on: an action for each */
+    ZP_TASK_WORDS = ZP_AT_STEPS + ZP_STEPS * ZP_RUNS,
 
-    /* The one number that is not of 01's table: `answer` is too short, and nothing was called. */
+    /* The one number that is not of the papers: `answer` is too short, and nothing was called. */
     ZP_ANSWER_TOO_SHORT = 255,
 
     /* How many words each kind of answer has. */
@@ -54,9 +57,9 @@ enum {
 
     /* A session table, the longest file and list, and room for every listing. */
     ZP_TABLE_NUMBERS = 448,
-    ZP_FILE_BYTES = 18821,
+    ZP_FILE_BYTES = 21516,
     ZP_LIST_NUMBERS = 6,
-    ZP_LISTING_BYTES = 510,
+    ZP_LISTING_BYTES = 986,
 
     /* The kinds of cell that an edit names; any other kind is refused with 14. */
     ZP_NEED = 0,
@@ -76,8 +79,8 @@ size_t zp_read(const uint8_t *file, size_t file_len, uint64_t *answer, size_t an
 size_t zp_write(const uint64_t *task, size_t task_len, uint8_t *room, size_t room_len, uint64_t *answer,
                 size_t answer_len);
 
-/* The run check. Answer: ZP_CHECKED_WORDS. */
-size_t zp_check(const uint64_t *task, size_t task_len, uint64_t *answer, size_t answer_len);
+/* The run check of the run with this number; 14 if the task has no such run. Answer: ZP_CHECKED_WORDS. */
+size_t zp_check(const uint64_t *task, size_t task_len, size_t run, uint64_t *answer, size_t answer_len);
 
 /* A list of repair numbers applied at once to the task, in its words. Answer: ZP_CHANGED_WORDS. */
 size_t zp_apply(uint64_t *task, size_t task_len, const uint16_t *list, size_t list_len, uint64_t *answer,
@@ -92,8 +95,9 @@ size_t zp_open(const uint64_t *task, size_t task_len, uint16_t *table, size_t ta
                size_t answer_len);
 
 /* One cell set to absent (0) or present (any other number) in the task's words, and its fact's row of the table written
- * afresh. Answer: ZP_CHANGED_WORDS. */
-size_t zp_edit(uint64_t *task, size_t task_len, size_t kind, size_t action, size_t fact, size_t present,
+ * afresh. `whose` is the action of a need, an add or a delete, and the run of a start or a goal; 14 if the task has no
+ * such action, run or fact. Answer: ZP_CHANGED_WORDS. */
+size_t zp_edit(uint64_t *task, size_t task_len, size_t kind, size_t whose, size_t fact, size_t present,
                uint16_t *table, size_t table_len, uint64_t *answer, size_t answer_len);
 
 /* The list of a session table into `room`; ZP_LIST_NUMBERS are always enough. Answer: ZP_REPLY_WORDS. */

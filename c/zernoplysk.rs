@@ -5,7 +5,7 @@
 
 pub const ANSWER_TOO_SHORT: usize = 255;
 
-pub const TASK_WORDS: usize = 166;
+pub const TASK_WORDS: usize = 636;
 pub const CHANGED_WORDS: usize = 2;
 pub const REPLY_WORDS: usize = 3;
 pub const CHECKED_WORDS: usize = 5;
@@ -14,9 +14,9 @@ pub const TASK_ANSWER_WORDS: usize = 2 + TASK_WORDS;
 
 // A session table, the longest file and list, and room for every listing.
 pub const TABLE_NUMBERS: usize = 448;
-pub const FILE_BYTES: usize = 18821;
+pub const FILE_BYTES: usize = 21516;
 pub const LIST_NUMBERS: usize = 6;
-pub const LISTING_BYTES: usize = 510;
+pub const LISTING_BYTES: usize = 986;
 
 // The kinds of cell that an edit names; any other kind is refused with 14.
 pub const NEED: usize = 0;
@@ -42,7 +42,13 @@ extern "C" {
         answer: *mut u64,
         answer_len: usize,
     ) -> usize;
-    fn zp_check(task: *const u64, task_len: usize, answer: *mut u64, answer_len: usize) -> usize;
+    fn zp_check(
+        task: *const u64,
+        task_len: usize,
+        run: usize,
+        answer: *mut u64,
+        answer_len: usize,
+    ) -> usize;
     fn zp_apply(
         task: *mut u64,
         task_len: usize,
@@ -71,7 +77,7 @@ extern "C" {
         task: *mut u64,
         task_len: usize,
         kind: usize,
-        action: usize,
+        whose: usize,
         fact: usize,
         present: usize,
         table: *mut u16,
@@ -134,10 +140,18 @@ pub fn write(task: &[u64], room: &mut [u8], answer: &mut [u64]) -> usize {
     }
 }
 
-/// The run check. Answer: `CHECKED_WORDS`.
-pub fn check(task: &[u64], answer: &mut [u64]) -> usize {
+/// The run check of the run with this number, counted from 0; 14 if the task has no such run. Answer: `CHECKED_WORDS`.
+pub fn check(task: &[u64], run: usize, answer: &mut [u64]) -> usize {
     // SAFETY: each pointer is good for its length, and what may be written is lent to this call alone.
-    unsafe { zp_check(task.as_ptr(), task.len(), answer.as_mut_ptr(), answer.len()) }
+    unsafe {
+        zp_check(
+            task.as_ptr(),
+            task.len(),
+            run,
+            answer.as_mut_ptr(),
+            answer.len(),
+        )
+    }
 }
 
 /// A list of repair numbers applied at once to the task, in its words. Answer: `CHANGED_WORDS`.
@@ -185,12 +199,13 @@ pub fn open(task: &[u64], table: &mut [u16], answer: &mut [u64]) -> usize {
     }
 }
 
-/// One cell set to absent (0) or present (any other number) in the task's words, its fact's row written afresh. Answer:
-/// `CHANGED_WORDS`.
+/// One cell set to absent (0) or present (any other number) in the task's words, its fact's row written afresh. `whose` is
+/// the action of a need, an add or a delete, and the run of a start or a goal; 14 if the task has no such action, run or
+/// fact. Answer: `CHANGED_WORDS`.
 pub fn edit(
     task: &mut [u64],
     kind: usize,
-    action: usize,
+    whose: usize,
     fact: usize,
     present: usize,
     table: &mut [u16],
@@ -202,7 +217,7 @@ pub fn edit(
             task.as_mut_ptr(),
             task.len(),
             kind,
-            action,
+            whose,
             fact,
             present,
             table.as_mut_ptr(),

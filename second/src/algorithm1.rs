@@ -1,5 +1,5 @@
 //! The published Algorithm 1 of source document 000, written plainly, for the benchmark: collect conflicts, take the
-//! first shortest list that hits all of them, test it, and add the conflict of the first step that still fails.
+//! first shortest list that hits all of them, test it, and add the conflict of the first run and step that still fails.
 
 use std::time::Instant;
 
@@ -8,7 +8,7 @@ use crate::options::Options;
 use crate::refusal::{plain, Ground, Refusal, Stop};
 use crate::repair::{repaired, Kind, Repair};
 use crate::run::{absent, after};
-use crate::task::{has, Task};
+use crate::task::{has, Action, Run, Task};
 
 /// Repairs by number, ascending, of which every working list has one.
 type Conflict = Vec<u16>;
@@ -37,35 +37,40 @@ fn within_limit(list: Vec<u16>, limit: usize) -> Result<Vec<u16>, Refusal> {
     }
 }
 
-/// Algorithm 2: the conflict of the first step (the goal last), and its lowest fact, that fails with the candidate
-/// applied; none if the run is valid.
+/// The conflict of the first run that fails with the candidate applied; none if all runs are valid.
 pub fn conflict_of(task: &Task, candidate: &[u16]) -> Option<Conflict> {
     let repairs: Vec<Repair> = candidate.iter().map(|&number| Repair::of_number(number)).collect();
     let task = repaired(task, &repairs);
-    let mut state = task.start;
-    for (step, action) in task.run().enumerate() {
+    task.known_runs().iter().find_map(|run| conflict_in(run, &task.table))
+}
+
+/// Algorithm 2: the conflict of the first step of a run (the goal last), and its lowest fact, that fails; none if the
+/// run is valid.
+fn conflict_in(run: &Run, table: &[Action]) -> Option<Conflict> {
+    let mut state = run.start;
+    for (step, action) in run.actions(table).enumerate() {
         let missing = absent(action.needs, state);
         if missing != 0 {
-            return Some(conflict_at(&task, step, missing.trailing_zeros() as usize));
+            return Some(conflict_at(run, table, step, missing.trailing_zeros() as usize));
         }
         state = after(state, action);
     }
-    let missing = absent(task.goal, state);
-    (missing != 0).then(|| conflict_at(&task, task.count, missing.trailing_zeros() as usize))
+    let missing = absent(run.goal, state);
+    (missing != 0).then(|| conflict_at(run, table, run.count, missing.trailing_zeros() as usize))
 }
 
 /// Drop the need at this step (not for a goal), drop the last delete before it, add the fact at any step from that
 /// delete up to here.
-fn conflict_at(task: &Task, step: usize, fact: usize) -> Conflict {
+fn conflict_at(run: &Run, table: &[Action], step: usize, fact: usize) -> Conflict {
     let mut conflict = Conflict::new();
     let mut put = |kind, action| conflict.push(Repair { kind, action, fact }.number());
-    if step < task.count {
-        put(Kind::DropNeed, task.steps[step] as usize);
+    if step < run.count {
+        put(Kind::DropNeed, run.steps[step] as usize);
     }
-    for &before in task.steps[..step].iter().rev() {
+    for &before in run.steps[..step].iter().rev() {
         let action = before as usize;
         put(Kind::AddEffect, action);
-        if has(task.table[action].deletes, fact) {
+        if has(table[action].deletes, fact) {
             put(Kind::DropDelete, action);
             break;
         }

@@ -4,7 +4,7 @@
 
 use crate::refusal::{plain, Ground, Refusal, Stop};
 use crate::repair::{all_permitted, repaired, Repair};
-use crate::run::valid;
+use crate::run::all_valid;
 use crate::task::Task;
 
 /// How many lists may still be simulated.
@@ -35,12 +35,13 @@ pub enum Found {
     NoneAtAll,
 }
 
-/// The first of the shortest lists of these repairs (ascending) that make the task's run valid, with at most `longest`.
+/// The first of the shortest lists of these repairs (ascending) that make all the task's runs valid, with at most
+/// `longest`.
 ///
 /// That no list of any length works is decided by making all the repairs: each repair only enlarges the later states
-/// or drops a need, so a run that some list makes valid stays valid with all the others made beside it.
+/// or drops a need, so runs that some list makes valid stay valid with all the others made beside it.
 pub fn first_of_shortest(task: &Task, repairs: &[Repair], longest: usize, budget: Budget) -> Result<Found, Stop> {
-    if !valid(&repaired(task, repairs)) {
+    if !all_valid(&repaired(task, repairs)) {
         return Ok(Found::NoneAtAll);
     }
     let mut search = Enumeration { task: *task, repairs, chosen: Vec::new(), budget };
@@ -66,7 +67,7 @@ impl Enumeration<'_> {
     fn some_list_works(&mut self, from: usize, more: usize) -> Result<bool, Stop> {
         if more == 0 {
             self.budget.spend_one()?;
-            return Ok(valid(&self.task));
+            return Ok(all_valid(&self.task));
         }
         for index in from..=self.repairs.len() - more {
             let repair = self.repairs[index];

@@ -1,4 +1,5 @@
-//! Tests of the reference: the bench sheet of document 01, row by row, and what 01 says of all tasks.
+//! Tests of the reference: the bench sheet of document 01, row by row, several runs (02, request 1), and what 01 and 02
+//! say of all tasks.
 
 use crate::algorithm1;
 use crate::answer::{answer, Budget};
@@ -8,9 +9,9 @@ use crate::listing::listing;
 use crate::random::Random;
 use crate::refusal::{at, plain, Ground, Refusal, Stop};
 use crate::repair::{apply, Repair};
-use crate::run::{absent, check, valid};
+use crate::run::{absent, all_valid, check, valid, Open};
 use crate::session::{edit, in_form, joined_answer, list, open, row, Cell, Edit, ROW, TABLE};
-use crate::task::{only, Task, MOST_FACTS};
+use crate::task::{only, Run, Task, MOST_FACTS, MOST_RUNS};
 
 /// The file of 01's listing, case 2.
 const CASE_2: [u8; 36] =
@@ -59,28 +60,28 @@ fn row_3_the_limit() {
 #[test]
 fn rows_4_and_5_no_steps() {
     let mut task = Task::sized(2, 1, 3);
-    (task.start, task.goal) = (0b11, 0b01);
+    (task.runs[0].start, task.runs[0].goal) = (0b11, 0b01);
     assert_eq!(solved(&task), Ok(vec![]));
-    task.start = 0;
+    task.runs[0].start = 0;
     assert_eq!(solved(&task), refused(plain(Ground::NoListAtAll)));
 }
 
 #[test]
 fn rows_6_and_7_add_wins_and_the_first_in_order() {
     let mut task = Task::sized(1, 1, 1);
-    (task.goal, task.table[0].adds, task.table[0].deletes) = (1, 1, 1);
-    task.push_step(0);
+    (task.runs[0].goal, task.table[0].adds, task.table[0].deletes) = (1, 1, 1);
+    task.last_run().push_step(0);
     assert_eq!(solved(&task), Ok(vec![]));
-    (task.start, task.table[0].adds) = (1, 0);
+    (task.runs[0].start, task.table[0].adds) = (1, 0);
     assert_eq!(solved(&task), Ok(vec![0]));
-    assert!(valid(&apply(&task, &[32]).unwrap()));
+    assert!(all_valid(&apply(&task, &[32]).unwrap()));
 }
 
 #[test]
 fn row_8_fact_63() {
     let mut task = Task::sized(MOST_FACTS, 1, 1);
     task.table[0].needs = only(63);
-    task.push_step(0);
+    task.last_run().push_step(0);
     assert_eq!(solved(&task), Ok(vec![6112]));
 }
 
@@ -108,12 +109,12 @@ fn rows_10_and_11_damaged_files() {
 /// Actions that delete fact 0, as many that need it, run in turn.
 fn pairs(count: usize) -> Task {
     let mut task = Task::sized(1, 2 * count, 6);
-    task.start = 1;
+    task.last_run().start = 1;
     for index in 0..count {
         task.table[index].deletes = 1;
         task.table[count + index].needs = 1;
-        task.push_step(index);
-        task.push_step(count + index);
+        task.last_run().push_step(index);
+        task.last_run().push_step(count + index);
     }
     task
 }
@@ -135,9 +136,9 @@ fn numbers_of_repairs_and_back() {
 }
 
 #[test]
-fn the_largest_file_has_18821_bytes_and_is_read_back() {
+fn the_largest_file_has_21516_bytes_and_is_read_back() {
     let file = file_of(&full_task());
-    assert_eq!(file.len(), 18_821);
+    assert_eq!(file.len(), 18_821 + 7 * 385);
     assert_eq!(read(&file), Ok(full_task()));
 }
 
@@ -145,7 +146,7 @@ fn the_largest_file_has_18821_bytes_and_is_read_back() {
 fn within_a_record_the_earlier_refusal_is_given() {
     let sized = [1, 4, 3, 3];
     let refusal = |bytes: &[u8]| read(&[&sized[..], bytes].concat()).unwrap_err();
-    assert_eq!(read(&[9, 4]), Err(at(Ground::UnknownKind, 0)));
+    assert_eq!(read(&[10, 4]), Err(at(Ground::UnknownKind, 0)));
     assert_eq!(read(&[4, 0]), Err(at(Ground::SizeRecord, 0)), "3 before the short body");
     assert_eq!(read(&[1, 65]), Err(at(Ground::NoEnd, 0)), "the short body before 4");
     assert_eq!(refusal(&[1]), at(Ground::SizeRecord, 4), "3 before the short body");
@@ -154,6 +155,121 @@ fn within_a_record_the_earlier_refusal_is_given() {
     assert_eq!(refusal(&[4, 0, 1, 4, 0, 1]), at(Ground::Order, 7));
     assert_eq!(refusal(&[7, 0].repeat(65)), at(Ground::TooManySteps, 4 + 128));
     assert_eq!(refusal(&[[7, 0].repeat(64), vec![7, 3]].concat()), at(Ground::Outside, 4 + 128), "5 before 7");
+}
+
+/// The refusal of a file with these records after the size record of four facts and three actions.
+fn refusal_after_sizes(records: &[&[u8]]) -> Refusal {
+    read(&[&[1, 4, 3, 3], records.concat().as_slice()].concat()).unwrap_err()
+}
+
+#[test]
+fn kind_9_opens_a_run_at_its_place() {
+    assert_eq!(read(&[9]), Err(at(Ground::SizeRecord, 0)), "the size record comes first");
+    assert_eq!(refusal_after_sizes(&[&[9]]), at(Ground::NoEnd, 5), "the end stays kind 8");
+    assert_eq!(refusal_after_sizes(&[&[9, 1, 4, 3, 3]]), at(Ground::SizeRecord, 5));
+    for table_kind in 4..=6 {
+        assert_eq!(refusal_after_sizes(&[&[9, table_kind, 0, 0]]), at(Ground::Order, 5));
+        assert_eq!(refusal_after_sizes(&[&[9, table_kind, 0, 4]]), at(Ground::Outside, 5), "5 before 6");
+        assert_eq!(refusal_after_sizes(&[&[9, table_kind, 0]]), at(Ground::NoEnd, 5), "the short body before 6");
+        assert_eq!(refusal_after_sizes(&[&[9, 2, 0, 3, 0, table_kind, 0, 0]]), at(Ground::Order, 9));
+    }
+    assert_eq!(refusal_after_sizes(&[&[9, 7, 0, 3, 0]]), at(Ground::Order, 7), "kinds go up within a run");
+    assert_eq!(refusal_after_sizes(&[&[9, 2, 1, 2, 1]]), at(Ground::Order, 7), "bodies ascend within a run");
+}
+
+#[test]
+fn the_order_begins_anew_in_each_run() {
+    let file = [&[1, 4, 3, 3, 2, 3, 3, 3, 7, 2][..], &[9, 2, 0, 2, 1, 3, 0, 7, 1, 7, 0], &[9], &[9, 7, 2, 8]].concat();
+    let task = read(&file).unwrap();
+    assert_eq!(task.many, 4);
+    assert_eq!(task.runs.map(|run| run.start), [0b1000, 0b11, 0, 0, 0, 0, 0, 0]);
+    assert_eq!(task.runs.map(|run| run.goal), [0b1000, 0b01, 0, 0, 0, 0, 0, 0]);
+    assert_eq!(task.known_runs().iter().map(Run::steps).collect::<Vec<_>>(), [&[2][..], &[1, 0], &[], &[2]]);
+    assert_eq!(file_of(&task), file);
+}
+
+#[test]
+fn a_ninth_run_is_refused_and_each_run_has_64_steps() {
+    let full = [&[9], [7, 0].repeat(64).as_slice()].concat();
+    let eight = [&[1, 4, 3, 3], &full[1..], &full.repeat(7), &[8]].concat();
+    assert_eq!(read(&eight).unwrap().known_runs().iter().map(|run| run.count).collect::<Vec<_>>(), [64; 8]);
+    assert_eq!(refusal_after_sizes(&[&[9; 8], &[8]]), at(Ground::TooManyRuns, 4 + 7));
+    assert_eq!(refusal_after_sizes(&[&[9; 8]]), at(Ground::TooManyRuns, 4 + 7), "16 before what follows");
+    assert_eq!(refusal_after_sizes(&[&[9; 7], &[7, 0].repeat(65)]), at(Ground::TooManySteps, 4 + 7 + 128));
+    assert_eq!(refusal_after_sizes(&[&full, &full, &[7, 0]]), at(Ground::TooManySteps, 4 + 2 * 129));
+}
+
+/// Case 2 with a further run, of the last action alone, from facts 1 and 2 to fact 3.
+fn two_runs() -> Task {
+    let mut task = case_2();
+    task.open_run();
+    (task.last_run().start, task.last_run().goal) = (0b0110, 0b1000);
+    task.last_run().push_step(2);
+    task
+}
+
+#[test]
+fn a_run_check_names_its_run() {
+    let mut task = two_runs();
+    assert_eq!(check(&task, 0), Ok(Open { total: 2, step: 3, fact: 1 }));
+    assert_eq!(check(&task, 1), Ok(Open::default()));
+    task.last_run().start = 0b0010;
+    assert_eq!(check(&task, 1), Ok(Open { total: 1, step: 1, fact: 2 }));
+    for beyond in [2, 8, u64::MAX] {
+        assert_eq!(check(&task, beyond), Err(plain(Ground::NotThere)));
+        assert_eq!(check(&Task { facts: 0, ..task }, beyond), Err(plain(Ground::NotWellFormed)), "12 before 14");
+    }
+}
+
+#[test]
+fn the_answer_makes_all_runs_valid() {
+    let mut task = two_runs();
+    assert_eq!(solved(&task), Ok(vec![97, 224]));
+    task.last_run().start = 0b0010;
+    assert_eq!(solved(&task), Ok(vec![97, 258]), "a need dropped serves both, an effect of action 0 only the first");
+    let text = "task 4 3 3 4\nopen 2 3 1\nopen 1 1 2\nset 2\ndrop-delete 1 1\ndrop-need 2 2\nend\n";
+    assert_eq!(listing(&file_of(&task), Budget::of(ENOUGH)).unwrap(), text);
+}
+
+#[test]
+fn one_run_without_steps_that_lacks_a_goal_makes_it_hopeless() {
+    let mut task = two_runs();
+    task.open_run();
+    assert_eq!(solved(&task), Ok(vec![97, 224]));
+    task.last_run().goal = 0b0100;
+    assert_eq!(solved(&task), refused(plain(Ground::NoListAtAll)));
+    let text = "task 4 3 3 4\nopen 2 3 1\nopen 0 0 0\nopen 1 1 2\nrefused 9 0\n";
+    assert_eq!(listing(&file_of(&task), Budget::of(ENOUGH)).unwrap(), text);
+    task.last_run().start = 0b0100;
+    assert_eq!(solved(&task), Ok(vec![97, 224]));
+}
+
+#[test]
+fn a_start_or_goal_edit_names_its_run() {
+    let task = two_runs();
+    let mut table = opened(&task);
+    let absent = |run| Edit { cell: Cell::Start { run }, fact: 2, present: false };
+    let edited = edit(&task, &absent(1), &mut table, Budget::of(ENOUGH)).unwrap();
+    assert_eq!(edited.runs.map(|run| run.start)[..3], [0b0001, 0b0010, 0]);
+    assert_eq!(list(&edited, &table), Ok(vec![97, 258]));
+    let refused = edit(&task, &absent(2), &mut table, Budget::of(ENOUGH));
+    assert_eq!(refused, Err(Stop::Refused(plain(Ground::NotThere))));
+}
+
+#[test]
+fn everything_for_unused_runs_is_zero() {
+    assert!(!Task { many: 0, ..case_2() }.well_formed());
+    assert!(!Task { many: MOST_RUNS + 1, ..case_2() }.well_formed());
+    let mut last_step = Run::empty();
+    last_step.steps[63] = 1;
+    let empty = Run::empty();
+    for run in [Run { start: 1, ..empty }, Run { goal: 1, ..empty }, Run { count: 1, ..empty }, last_step] {
+        let mut task = case_2();
+        task.runs[MOST_RUNS - 1] = run;
+        assert!(!task.well_formed());
+    }
+    assert!(!Task { many: 1, ..two_runs() }.well_formed());
+    assert!(Task { many: MOST_RUNS, ..two_runs() }.well_formed());
 }
 
 #[test]
@@ -189,7 +305,9 @@ fn every_random_task_is_well_formed_and_its_file_is_read_back() {
 #[test]
 fn the_total_is_zero_exactly_if_the_run_is_valid() {
     for task in random_tasks(2000) {
-        assert_eq!(check(&task).unwrap().total == 0, valid(&task));
+        for (index, run) in task.known_runs().iter().enumerate() {
+            assert_eq!(check(&task, index as u64).unwrap().total == 0, valid(run, &task.table));
+        }
     }
 }
 
@@ -205,17 +323,18 @@ fn the_answer_is_the_join_of_the_rows_and_leaves_nothing_open() {
         compared += 1;
         assert_eq!(found, joined);
         if let Ok(list) = found {
-            assert!(valid(&apply(&task, &list).unwrap()));
+            assert!(all_valid(&apply(&task, &list).unwrap()));
         }
     }
     assert!(compared > 1500, "only {compared} were affordable");
 }
 
-/// "Refusal 9 occurs here only with no steps and a goal absent at the start."
+/// "A solve gives 9 exactly when a run without steps lacks a goal at its start."
 #[test]
-fn no_list_works_exactly_without_steps_and_with_a_goal_absent() {
+fn no_list_works_exactly_with_a_run_without_steps_that_lacks_a_goal() {
     for task in random_tasks(2000) {
-        let closing_sentence = task.count == 0 && absent(task.goal, task.start) != 0;
+        let lacks = |run: &Run| run.count == 0 && absent(run.goal, run.start) != 0;
+        let closing_sentence = task.known_runs().iter().any(lacks);
         let hopeless = answer(&task, Budget::of(100)) == refused(plain(Ground::NoListAtAll));
         assert_eq!(hopeless, closing_sentence);
     }

@@ -53,7 +53,7 @@ impl Broken {
         }
     }
 
-    /// What document 01 demands.
+    /// What documents 01 and 02 demand.
     pub fn right(&mut self, request: &Request) -> Response {
         self.reference.respond(request).expect("the comparison asks only what the reference can afford")
     }

@@ -1,19 +1,20 @@
-//! Deliberate faults for the self-driver, among them 01's "errors that look right": the comparison must find each.
+//! Deliberate faults for the self-driver, among them 01's "errors that look right" and those of several runs: the
+//! comparison must find each.
 
 use crate::answer::Budget;
 use crate::drive::Broken;
-use crate::file::{records, Record, STEP};
+use crate::file::{records, Record, DELETE, NEED, RUN, STEP};
 use crate::protocol::{bytes_of, numbers_of, Call, Request, Response};
 use crate::repair::{all_permitted, repaired, Repair};
-use crate::run::{after, valid};
+use crate::run::{after, all_valid};
 use crate::session::{in_form, row_of, ROW, TABLE, UNUSED};
-use crate::task::{has, Action, Task, MOST_FACTS, MOST_STEPS, WORDS};
+use crate::task::{has, Action, Run, Task, MOST_FACTS, MOST_RUNS, MOST_STEPS, WORDS};
 
 /// A fault makes a wrong response of a request and the right response.
 pub type Fault = fn(&mut Broken, &Request, Response) -> Response;
 
 /// The faults by name.
-pub const FAULTS: [(&str, Fault); 25] = [
+pub const FAULTS: [(&str, Fault); 38] = [
     ("limit-below", limit_below),
     ("equal-neighbours", equal_neighbours),
     ("range-after-order", range_after_order),
@@ -31,7 +32,7 @@ pub const FAULTS: [(&str, Fault); 25] = [
     ("refused-solve-writes", refused_solve_writes),
     ("refused-gives-zeros", refused_gives_zeros),
     ("refused-gives-its-reading", refused_gives_its_reading),
-    ("refused-gives-166-words", refused_gives_166_words),
+    ("refused-gives-636-words", refused_gives_636_words),
     ("row-six-is-seven", row_six_is_seven),
     ("longer-table", longer_table),
     ("stale-row", stale_row),
@@ -39,6 +40,19 @@ pub const FAULTS: [(&str, Fault); 25] = [
     ("later-edits-echo", later_edits_echo),
     ("outside-before-length", outside_before_length),
     ("form-of-used-places-only", form_of_used_places_only),
+    ("table-kinds-in-further-runs", table_kinds_in_further_runs),
+    ("order-not-begun-anew", order_not_begun_anew),
+    ("no-eighth-run", no_eighth_run),
+    ("ninth-run-out-of-order", ninth_run_out_of_order),
+    ("steps-counted-over-all-runs", steps_counted_over_all_runs),
+    ("unused-runs", unused_runs),
+    ("check-beyond-is-empty", check_beyond_is_empty),
+    ("first-run-solved", first_run_solved),
+    ("rows-of-the-first-run", rows_of_the_first_run),
+    ("edits-of-the-first-run", edits_of_the_first_run),
+    ("edit-opens-a-run", edit_opens_a_run),
+    ("one-open-line", one_open_line),
+    ("steps-of-the-first-run", steps_of_the_first_run),
 ];
 
 fn task_of(request: &Request) -> Option<Task> {
@@ -122,20 +136,31 @@ fn no_64th_step(_: &mut Broken, request: &Request, right: Response) -> Response 
     if request.call != Call::Read || !refused_with(&right, 0) {
         return right;
     }
-    let steps: Vec<_> = placed(&request.bytes).into_iter().filter(|(_, record)| record.kind == STEP).collect();
-    match steps.get(MOST_STEPS - 1) {
-        Some((place, _)) => {
-            let words = [&[7, *place as u64][..], &Task::zeros().words()].concat();
-            Response { words, bytes: vec![] }
-        }
+    let records = placed(&request.bytes);
+    let runs = records.split(|(_, record)| record.kind == RUN);
+    let of_kind = |run: &[(usize, Record)]| nth_of_kind(run, STEP, MOST_STEPS);
+    match runs.filter_map(of_kind).next() {
+        Some(place) => refused_read(7, place),
         None => right,
     }
+}
+
+/// The place of the n-th of these records, counted from 1, that has this kind.
+fn nth_of_kind(records: &[(usize, Record)], kind: u8, n: usize) -> Option<usize> {
+    let mut places = records.iter().filter(|(_, record)| record.kind == kind).map(|(place, _)| *place);
+    places.nth(n - 1)
+}
+
+/// A refused read.
+fn refused_read(number: u64, place: usize) -> Response {
+    let words = [&[number, place as u64][..], &Task::zeros().words()].concat();
+    Response { words, bytes: vec![] }
 }
 
 /// With 64 facts the last one counts as outside (a shift by 64).
 fn no_fact_63(_: &mut Broken, request: &Request, right: Response) -> Response {
     match task_of(request) {
-        Some(task) if request.call == Call::Check && task.facts == MOST_FACTS && has(task.start, 63) => {
+        Some(task) if request.call == Call::Check && task.facts == MOST_FACTS && has(task.runs[0].start, 63) => {
             Response { words: vec![12, 0, 0, 0, 0], bytes: vec![] }
         }
         _ => right,
@@ -167,14 +192,15 @@ fn delete_wins(broken: &mut Broken, request: &Request, right: Response) -> Respo
 /// The total counts steps with an open need instead of absent facts.
 fn steps_for_facts(_: &mut Broken, request: &Request, mut right: Response) -> Response {
     if request.call == Call::Check && refused_with(&right, 0) {
-        let task = Task::from_words(&request.words);
-        let mut state = task.start;
+        let task = Task::from_words(request.task_words().unwrap_or(&[]));
+        let run = task.runs[request.more_words()[0] as usize];
+        let mut state = run.start;
         let mut total = 0;
-        for action in task.run() {
+        for action in run.actions(&task.table) {
             total += (action.needs & !state != 0) as u64;
             state = after(state, action);
         }
-        right.words[2] = total + (task.goal & !state != 0) as u64;
+        right.words[2] = total + (run.goal & !state != 0) as u64;
     }
     right
 }
@@ -184,7 +210,7 @@ fn last_of_shortest(_: &mut Broken, request: &Request, mut right: Response) -> R
     if request.call == Call::Solve && refused_with(&right, 0) && right.words[2] == 1 {
         let task = Task::from_words(&request.words);
         let permitted = all_permitted(&task);
-        if let Some(last) = permitted.iter().rev().find(|&&repair| valid(&repaired(&task, &[repair]))) {
+        if let Some(last) = permitted.iter().rev().find(|&&repair| all_valid(&repaired(&task, &[repair]))) {
             right.bytes[..2].copy_from_slice(&last.number().to_le_bytes());
         }
     }
@@ -200,7 +226,7 @@ fn shortest_for_inclusion(_: &mut Broken, request: &Request, right: Response) ->
     let mut list = all_permitted(&task);
     for repair in all_permitted(&task) {
         let rest: Vec<Repair> = list.iter().copied().filter(|&other| other != repair).collect();
-        if valid(&repaired(&task, &rest)) {
+        if all_valid(&repaired(&task, &rest)) {
             list = rest;
         }
     }
@@ -215,8 +241,9 @@ fn shortest_for_inclusion(_: &mut Broken, request: &Request, right: Response) ->
 /// Goals are dropped where they are not met.
 fn goals_dropped(broken: &mut Broken, request: &Request, right: Response) -> Response {
     match task_of(request) {
-        Some(task) if request.call == Call::Solve && task.well_formed() => {
-            broken.with_task(request, &Task { goal: 0, ..task })
+        Some(mut task) if request.call == Call::Solve && task.well_formed() => {
+            task.runs.iter_mut().for_each(|run| run.goal = 0);
+            broken.with_task(request, &task)
         }
         _ => right,
     }
@@ -247,8 +274,8 @@ fn refused_gives_its_reading(_: &mut Broken, request: &Request, mut right: Respo
     right
 }
 
-/// A refused edit or applying of another number of words gives the 166 words of the task of zeros.
-fn refused_gives_166_words(_: &mut Broken, request: &Request, mut right: Response) -> Response {
+/// A refused edit or applying of another number of words gives the 636 words of the task of zeros.
+fn refused_gives_636_words(_: &mut Broken, request: &Request, mut right: Response) -> Response {
     if [Call::Edit, Call::Apply].contains(&request.call) && right.words.len() != 2 + WORDS {
         right.words.truncate(2);
         right.words.extend(Task::zeros().words());
@@ -344,4 +371,159 @@ fn form_of_used_places_only(broken: &mut Broken, request: &Request, right: Respo
         return right;
     }
     broken.right(&Request { bytes: bytes_of(&numbers), ..request.clone() })
+}
+
+/// A table kind in a further run is passed over.
+fn table_kinds_in_further_runs(broken: &mut Broken, request: &Request, right: Response) -> Response {
+    if request.call != Call::Read || !refused_with(&right, 6) {
+        return right;
+    }
+    let place = right.words[1] as usize;
+    let records = placed(&request.bytes);
+    let further = records.iter().any(|(at, record)| *at < place && record.kind == RUN);
+    match records.iter().find(|(at, _)| *at == place) {
+        Some((_, record)) if further && (NEED..=DELETE).contains(&record.kind) => {
+            let bytes = [&request.bytes[..place], &request.bytes[record.next..]].concat();
+            broken.right(&Request { bytes, ..request.clone() })
+        }
+        _ => right,
+    }
+}
+
+/// The kinds of a further run may not go down from those of the run before it.
+fn order_not_begun_anew(_: &mut Broken, request: &Request, right: Response) -> Response {
+    if request.call != Call::Read || !refused_with(&right, 0) {
+        return right;
+    }
+    let mut records = placed(&request.bytes);
+    records.retain(|(_, record)| record.kind != RUN);
+    match records.windows(2).find(|pair| pair[1].1.kind < pair[0].1.kind) {
+        Some(pair) => refused_read(6, pair[1].0),
+        None => right,
+    }
+}
+
+/// The eighth run is one too many.
+fn no_eighth_run(_: &mut Broken, request: &Request, right: Response) -> Response {
+    if request.call != Call::Read || !refused_with(&right, 0) {
+        return right;
+    }
+    match nth_of_kind(&placed(&request.bytes), RUN, MOST_RUNS - 1) {
+        Some(place) => refused_read(16, place),
+        None => right,
+    }
+}
+
+/// A ninth run counts as a record out of order.
+fn ninth_run_out_of_order(_: &mut Broken, request: &Request, mut right: Response) -> Response {
+    if request.call == Call::Read && refused_with(&right, 16) {
+        right.words[0] = 6;
+    }
+    right
+}
+
+/// The 65th step of all runs together is refused.
+fn steps_counted_over_all_runs(_: &mut Broken, request: &Request, right: Response) -> Response {
+    if request.call != Call::Read || !refused_with(&right, 0) {
+        return right;
+    }
+    match nth_of_kind(&placed(&request.bytes), STEP, MOST_STEPS + 1) {
+        Some(place) => refused_read(7, place),
+        None => right,
+    }
+}
+
+/// What stands for unused runs is not looked at.
+fn unused_runs(broken: &mut Broken, request: &Request, right: Response) -> Response {
+    match task_of(request) {
+        Some(mut task) if request.call == Call::Check && refused_with(&right, 12) => {
+            task.runs.iter_mut().skip(task.many).for_each(|run| *run = Run::empty());
+            broken.with_task(request, &task)
+        }
+        _ => right,
+    }
+}
+
+/// A run that isn't there has no open needs.
+fn check_beyond_is_empty(_: &mut Broken, request: &Request, right: Response) -> Response {
+    if request.call == Call::Check && refused_with(&right, 14) {
+        return Response { words: vec![0; 5], bytes: vec![] };
+    }
+    right
+}
+
+/// The task with its first run alone.
+fn with_first_run(task: &Task) -> Task {
+    let mut first = Task { many: 1, ..*task };
+    first.runs[1..].fill(Run::empty());
+    first
+}
+
+/// The answer mends the first run only.
+fn first_run_solved(broken: &mut Broken, request: &Request, right: Response) -> Response {
+    match task_of(request) {
+        Some(task) if request.call == Call::Solve && task.well_formed() => {
+            broken.with_task(request, &with_first_run(&task))
+        }
+        _ => right,
+    }
+}
+
+/// Opening looks at the first run only.
+fn rows_of_the_first_run(broken: &mut Broken, request: &Request, right: Response) -> Response {
+    match task_of(request) {
+        Some(task) if request.call == Call::Open && task.well_formed() => {
+            broken.with_task(request, &with_first_run(&task))
+        }
+        _ => right,
+    }
+}
+
+/// A start or goal edit changes the first run, whichever it names.
+fn edits_of_the_first_run(broken: &mut Broken, request: &Request, right: Response) -> Response {
+    if request.call != Call::Edit || !refused_with(&right, 0) || request.more_words()[0] < 3 {
+        return right;
+    }
+    let mut words = request.words.clone();
+    let run = words.len() - 3;
+    words[run] = 0;
+    broken.right(&Request { words, ..request.clone() })
+}
+
+/// A start or goal edit of the next run opens it.
+fn edit_opens_a_run(broken: &mut Broken, request: &Request, right: Response) -> Response {
+    let Some(mut task) = task_of(request) else { return right };
+    let next = task.many as u64;
+    let names_next = request.call == Call::Edit && request.more_words()[0] >= 3 && request.more_words()[1] == next;
+    if !names_next || !refused_with(&right, 14) || task.many == MOST_RUNS {
+        return right;
+    }
+    task.open_run();
+    broken.with_task(request, &task)
+}
+
+/// A listing without some of its lines.
+fn without_lines(right: &Response, keep: impl FnMut(&(usize, &str)) -> bool) -> Response {
+    let text = String::from_utf8_lossy(&right.bytes);
+    let kept = text.lines().enumerate().filter(keep);
+    Response { words: vec![], bytes: kept.flat_map(|(_, line)| format!("{line}\n").into_bytes()).collect() }
+}
+
+/// The listing has the open line of the first run only.
+fn one_open_line(_: &mut Broken, request: &Request, right: Response) -> Response {
+    if request.call != Call::Listing {
+        return right;
+    }
+    without_lines(&right, |(index, line)| *index < 2 || !line.starts_with("open"))
+}
+
+/// The listing's task line has the steps of the first run only.
+fn steps_of_the_first_run(_: &mut Broken, request: &Request, right: Response) -> Response {
+    let Ok(task) = crate::file::read(&request.bytes) else { return right };
+    if request.call != Call::Listing {
+        return right;
+    }
+    let first = format!("task {} {} {} {}\n", task.facts, task.actions, task.limit, task.runs[0].count);
+    let rest = without_lines(&right, |(index, _)| *index > 0);
+    Response { words: vec![], bytes: [first.into_bytes(), rest.bytes].concat() }
 }

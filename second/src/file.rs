@@ -1,8 +1,8 @@
-//! The task file ("The task file"): the record reader, the reader of a whole file, and the writer.
+//! The task file ("The task file"; 02, request 1): the record reader, the reader of a whole file, and the writer.
 
 use crate::answer::lend;
 use crate::refusal::{at, Ground, Refusal};
-use crate::task::{has, sizes_in_range, with, Action, Facts, Task, MOST_STEPS};
+use crate::task::{has, sizes_in_range, with, Action, Facts, Run, Task, MOST_FACTS, MOST_RUNS, MOST_STEPS};
 
 pub const SIZES: u8 = 1;
 pub const START: u8 = 2;
@@ -12,6 +12,8 @@ pub const ADD: u8 = 5;
 pub const DELETE: u8 = 6;
 pub const STEP: u8 = 7;
 pub const END: u8 = 8;
+/// Opens a further run.
+pub const RUN: u8 = 9;
 
 /// How many bytes a kind's body has; none if there is no such kind.
 pub fn body_length(kind: u8) -> Option<usize> {
@@ -19,7 +21,7 @@ pub fn body_length(kind: u8) -> Option<usize> {
         SIZES => Some(3),
         START | GOAL | STEP => Some(1),
         NEED | ADD | DELETE => Some(2),
-        END => Some(0),
+        END | RUN => Some(0),
         _ => None,
     }
 }
@@ -65,8 +67,8 @@ pub fn records(file: &[u8]) -> Vec<Record<'_>> {
     found
 }
 
-/// Reads a whole file. The first faulty record decides; within it 1 (no kind byte), 2, 3, 1 (short body), 4, 5, 6, 7;
-/// then 8 after a good end.
+/// Reads a whole file. The first faulty record decides; within it 1 (no kind byte), 2, 3, 1 (short body), 4, 5, 6, 16,
+/// 7; then 8 after a good end.
 pub fn read(file: &[u8]) -> Result<Task, Refusal> {
     let mut reading = Reading { task: Task::zeros(), last: None };
     let mut place = 0;
@@ -126,56 +128,78 @@ impl<'a> Reading<'a> {
         }
     }
 
-    /// "Kinds never go down. Within each of kinds 2 to 6 the bodies strictly ascend, first number first."
+    /// "Kinds never go down. Within each of kinds 2 to 6 the bodies strictly ascend, first number first." In a further
+    /// run the order begins anew, and it holds no table kind; kind 9 and the end are never too early.
     fn order_holds(&self, record: &Record, place: usize) -> Result<(), Refusal> {
         let Some(last) = self.last else { return Ok(()) };
-        let down = record.kind < last.kind;
+        let further = self.task.many > 1;
+        let table_kind = (NEED..=DELETE).contains(&record.kind);
+        let down = last.kind != RUN && record.kind < last.kind;
         let same = record.kind == last.kind && (START..=DELETE).contains(&record.kind);
-        if down || (same && record.body <= last.body) {
+        if down || (further && table_kind) || (same && record.body <= last.body) {
             return Err(at(Ground::Order, place));
         }
         Ok(())
     }
 
-    /// Takes a record that fits into the task; a 65th step is refused.
+    /// Takes a record that fits into the task; a ninth run and a run's 65th step are refused.
     fn take(&mut self, record: &Record, place: usize) -> Result<(), Refusal> {
         let task = &mut self.task;
         let set = |facts: &mut Facts, fact: u8| *facts = with(*facts, fact as usize, true);
         match (record.kind, record.body) {
             (SIZES, &[facts, actions, limit]) => *task = Task::sized(facts as usize, actions as usize, limit as usize),
-            (START, &[fact]) => set(&mut task.start, fact),
-            (GOAL, &[fact]) => set(&mut task.goal, fact),
+            (START, &[fact]) => set(&mut task.last_run().start, fact),
+            (GOAL, &[fact]) => set(&mut task.last_run().goal, fact),
             (NEED, &[action, fact]) => set(&mut task.table[action as usize].needs, fact),
             (ADD, &[action, fact]) => set(&mut task.table[action as usize].adds, fact),
             (DELETE, &[action, fact]) => set(&mut task.table[action as usize].deletes, fact),
-            (STEP, &[_]) if task.count == MOST_STEPS => return Err(at(Ground::TooManySteps, place)),
-            (STEP, &[action]) => task.push_step(action as usize),
+            (RUN, _) if task.many == MOST_RUNS => return Err(at(Ground::TooManyRuns, place)),
+            (RUN, _) => task.open_run(),
+            (STEP, _) if task.last_run().count == MOST_STEPS => return Err(at(Ground::TooManySteps, place)),
+            (STEP, &[action]) => task.last_run().push_step(action as usize),
             _ => {}
         }
         Ok(())
     }
 }
 
-/// The file of a well-formed task.
+/// The file of a well-formed task: the table stands between the first run's goals and its steps.
 pub fn file_of(task: &Task) -> Vec<u8> {
     let mut file = vec![SIZES, task.facts as u8, task.actions as u8, task.limit as u8];
-    for (kind, set) in [(START, task.start), (GOAL, task.goal)] {
-        for fact in (0..task.facts).filter(|&fact| has(set, fact)) {
-            file.extend([kind, fact as u8]);
+    for (index, run) in task.known_runs().iter().enumerate() {
+        if index > 0 {
+            file.push(RUN);
         }
-    }
-    for kind in [NEED, ADD, DELETE] {
-        for (index, action) in task.table[..task.actions].iter().enumerate() {
-            for fact in (0..task.facts).filter(|&fact| has(cells(action, kind), fact)) {
-                file.extend([kind, index as u8, fact as u8]);
-            }
+        file.extend(ends_of(run));
+        if index == 0 {
+            file.extend(table_of(task));
         }
-    }
-    for &step in &task.steps[..task.count] {
-        file.extend([STEP, step]);
+        file.extend(run.steps().iter().flat_map(|&step| [STEP, step]));
     }
     file.push(END);
     file
+}
+
+/// The records of a run's starts and goals.
+fn ends_of(run: &Run) -> Vec<u8> {
+    let of_kind = |(kind, set)| facts_in(set).flat_map(move |fact| [kind, fact]);
+    [(START, run.start), (GOAL, run.goal)].into_iter().flat_map(of_kind).collect()
+}
+
+/// The records of the needs, adds and deletes.
+fn table_of(task: &Task) -> Vec<u8> {
+    let mut records = Vec::new();
+    for kind in [NEED, ADD, DELETE] {
+        for (index, action) in task.table[..task.actions].iter().enumerate() {
+            records.extend(facts_in(cells(action, kind)).flat_map(|fact| [kind, index as u8, fact]));
+        }
+    }
+    records
+}
+
+/// The facts of a set, ascending.
+fn facts_in(set: Facts) -> impl Iterator<Item = u8> {
+    (0..MOST_FACTS).filter(move |&fact| has(set, fact)).map(|fact| fact as u8)
 }
 
 /// The set of an action that the records of this kind list.

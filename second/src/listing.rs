@@ -1,14 +1,14 @@
-//! The text that the program prints for its input ("The listing").
+//! The text that the program prints for its input ("The listing"; 02, request 1).
 
 use crate::answer::Budget;
 use crate::file::read;
 use crate::refusal::{Refusal, Stop};
 use crate::repair::{Kind, Repair};
-use crate::run::check;
+use crate::run::open_needs;
 use crate::task::Task;
 
-/// "The program reads standard input, at most 20,000 bytes."
-pub const MOST_INPUT: usize = 20_000;
+/// "The program's buffer becomes 24,000 bytes."
+pub const MOST_INPUT: usize = 24_000;
 
 /// The listing of an input, solved by this function (by the definition, or otherwise).
 pub fn listing_by<S>(input: &[u8], solve: S) -> Result<String, Stop>
@@ -20,15 +20,24 @@ where
         Ok(task) => task,
         Err(refusal) => return Ok(refused_line(&refusal)),
     };
-    let open = check(&task)?;
-    let task_line = format!("task {} {} {} {}\n", task.facts, task.actions, task.limit, task.count);
-    let open_line = format!("open {} {} {}\n", open.total, open.step, open.fact);
     let rest = match solve(&task) {
         Ok(list) => solved_lines(&list),
         Err(Stop::Refused(refusal)) => refused_line(&refusal),
         Err(Stop::TooDear) => return Err(Stop::TooDear),
     };
-    Ok(task_line + &open_line + &rest)
+    Ok(task_line(&task) + &open_lines(&task) + &rest)
+}
+
+/// "The task line's steps are the sum over the runs."
+fn task_line(task: &Task) -> String {
+    let steps: usize = task.known_runs().iter().map(|run| run.count).sum();
+    format!("task {} {} {} {steps}\n", task.facts, task.actions, task.limit)
+}
+
+/// "One open line per run, in order."
+fn open_lines(task: &Task) -> String {
+    let opens = task.known_runs().iter().map(|run| open_needs(run, &task.table));
+    opens.map(|open| format!("open {} {} {}\n", open.total, open.step, open.fact)).collect()
 }
 
 /// The listing of an input, solved by the definition of the answer.

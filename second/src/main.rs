@@ -1,8 +1,8 @@
 //! # The second program
 //!
-//! An independent program for the rules of document 01, written from that document alone and not from the Rattle code.
+//! An independent program for the rules of documents 01 and 02, written from those alone and not from the Rattle code.
 //! It is slow and plain on purpose: it enumerates permitted repair lists by length and then in order, makes the
-//! repairs and simulates the run, so that a reader can see that its answers are right. Its main use is
+//! repairs and simulates the runs, so that a reader can see that its answers are right. Its main use is
 //! `second compare`, which puts many random tasks, files and edits to a driver of the proved library and to itself,
 //! and compares every word and byte of every answer. Beside that it holds the published Algorithm 1 of source document
 //! 000 and a maker of hard tasks, both for the benchmark. Standard library only; `cargo build --offline --release`.

@@ -61,7 +61,7 @@ impl Request {
         }
     }
 
-    /// The words that stand behind the task: an edit, or how many numbers are the table.
+    /// The words that stand behind the task: a run, an edit, or how many numbers are the table.
     pub fn more_words(&self) -> &[u64] {
         self.parted().1
     }
@@ -69,7 +69,7 @@ impl Request {
     fn parted(&self) -> (&[u64], &[u64]) {
         let more = match self.call {
             Call::Edit => 4,
-            Call::List => 1,
+            Call::Check | Call::List => 1,
             _ => 0,
         };
         self.words.split_at(self.words.len() - more)

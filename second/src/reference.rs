@@ -1,4 +1,4 @@
-//! Answers every request of the protocol from this program's own reading of document 01.
+//! Answers every request of the protocol from this program's own reading of documents 01 and 02.
 
 use crate::answer::{answer, lend, Budget};
 use crate::file::{read, record_at, write};
@@ -47,7 +47,7 @@ impl Reference {
         Reference { budgets, last: None, means: Means::None }
     }
 
-    /// The response that document 01 demands; none if it is too dear to enumerate.
+    /// The response that documents 01 and 02 demand; none if it is too dear to enumerate.
     pub fn respond(&mut self, request: &Request) -> Option<Response> {
         self.means = Means::None;
         let words = request.task_words().unwrap_or(&[]);
@@ -60,7 +60,7 @@ impl Reference {
                 let length = write(&Task::from_words(words), &mut room);
                 length_response(length.map_err(Stop::from), room)
             }
-            Call::Check => Some(check_response(&Task::from_words(words))),
+            Call::Check => Some(check_response(&Task::from_words(words), request.more_words()[0])),
             Call::Apply => {
                 let repaired = apply(&Task::from_words(words), &numbers_of(bytes));
                 task_response(words, repaired.map_err(Stop::from), vec![])
@@ -105,15 +105,16 @@ impl Reference {
     }
 }
 
-/// The edit that four words name; every fourth word but 0 is present.
+/// The edit that four words name. The second is the action of a cell of the table, or the run of a start or goal; every
+/// fourth word but 0 is present.
 fn edit_of(words: &[u64]) -> Edit {
-    let action = words[1];
+    let (action, run) = (words[1], words[1]);
     let cell = match words[0] {
         0 => Cell::Need { action },
         1 => Cell::Add { action },
         2 => Cell::Delete { action },
-        3 => Cell::Start,
-        _ => Cell::Goal,
+        3 => Cell::Start { run },
+        _ => Cell::Goal { run },
     };
     Edit { cell, fact: words[2], present: words[3] != 0 }
 }
@@ -137,8 +138,8 @@ fn read_response(file: &[u8]) -> Response {
     }
 }
 
-fn check_response(task: &Task) -> Response {
-    match check(task) {
+fn check_response(task: &Task, run: u64) -> Response {
+    match check(task, run) {
         Ok(open) => accepted(&[open.total, open.step, open.fact], vec![]),
         Err(refusal) => refused(&refusal, &[0; 3], vec![]),
     }

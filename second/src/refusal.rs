@@ -1,6 +1,7 @@
-//! Why a call gives no answer: a refusal of document 01 ("Refusal numbers"), or an enumeration that grew too dear.
+//! Why a call gives no answer: a refusal of document 01 ("Refusal numbers") or of 02, or an enumeration that grew too
+//! dear.
 
-/// The grounds of refusal; the value of each is its number in 01.
+/// The grounds of refusal; the value of each is its number in 01, or in 02.
 #[derive(Clone, Copy, PartialEq, Eq, Debug)]
 pub enum Ground {
     NoEnd = 1,
@@ -16,8 +17,9 @@ pub enum Ground {
     ShortRoom = 11,
     NotWellFormed = 12,
     Table = 13,
-    EditOutside = 14,
+    NotThere = 14,
     RepairList = 15,
+    TooManyRuns = 16,
 }
 
 /// A refusal: its ground and its place.
@@ -36,9 +38,10 @@ impl Refusal {
 /// What ends a call without an answer.
 #[derive(Clone, Copy, PartialEq, Eq, Debug)]
 pub enum Stop {
-    /// 01 refuses the call.
+    /// The documents refuse the call.
     Refused(Refusal),
-    /// This program would have to enumerate more lists than it was allowed; 01 has an answer all the same.
+    /// This program would have to enumerate more lists than it was allowed; the documents have an answer all the
+    /// same.
     TooDear,
 }
 

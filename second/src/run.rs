@@ -1,7 +1,7 @@
-//! The run of a task: what a step does, whether the run is valid, and the run check ("The run check").
+//! The runs of a task: what a step does, whether a run is valid, and the run check ("The run check").
 
-use crate::refusal::Refusal;
-use crate::task::{Action, Facts, Task};
+use crate::refusal::{plain, Ground, Refusal};
+use crate::task::{Action, Facts, Run, Task};
 
 /// "Afterwards the state is (state without deletes) joined with adds": add wins.
 pub fn after(state: Facts, action: &Action) -> Facts {
@@ -14,15 +14,20 @@ pub fn absent(wanted: Facts, state: Facts) -> Facts {
 }
 
 /// "A run is valid if each step may run and all goals hold at the end."
-pub fn valid(task: &Task) -> bool {
-    let mut state = task.start;
-    for action in task.run() {
+pub fn valid(run: &Run, table: &[Action]) -> bool {
+    let mut state = run.start;
+    for action in run.actions(table) {
         if absent(action.needs, state) != 0 {
             return false;
         }
         state = after(state, action);
     }
-    absent(task.goal, state) == 0
+    absent(run.goal, state) == 0
+}
+
+/// 02: the answer "makes all runs valid".
+pub fn all_valid(task: &Task) -> bool {
+    task.known_runs().iter().all(|run| valid(run, &task.table))
 }
 
 /// What the run check gives.
@@ -34,16 +39,25 @@ pub struct Open {
     pub fact: u64,
 }
 
-pub fn check(task: &Task) -> Result<Open, Refusal> {
+/// The run check of the run with this number, counted from 0: 12, then 14 for a run that isn't there.
+pub fn check(task: &Task, run: u64) -> Result<Open, Refusal> {
     task.must_be_well_formed()?;
+    if !task.has_run(run) {
+        return Err(plain(Ground::NotThere));
+    }
+    Ok(open_needs(&task.runs[run as usize], &task.table))
+}
+
+/// The open needs of a run of a well-formed task.
+pub fn open_needs(run: &Run, table: &[Action]) -> Open {
     let mut open = Open::default();
-    let mut state = task.start;
-    for (index, action) in task.run().enumerate() {
+    let mut state = run.start;
+    for (index, action) in run.actions(table).enumerate() {
         open.meet(index + 1, absent(action.needs, state));
         state = after(state, action);
     }
-    open.meet(task.count + 1, absent(task.goal, state));
-    Ok(open)
+    open.meet(run.count + 1, absent(run.goal, state));
+    open
 }
 
 impl Open {

@@ -17,8 +17,8 @@ const ROW_LONGEST: usize = 6;
 
 type Row = [u16; ROW];
 
-/// The task with the cells, start and goal of this one fact only. Its run is valid exactly if the fact is "present
-/// wherever it is needed, and at the end if it is a goal".
+/// The task with the cells, starts and goals of this one fact only. All its runs are valid exactly if the fact is
+/// "present wherever it is needed, and at the end if it is a goal", in each of them.
 fn alone(task: &Task, fact: usize) -> Task {
     let mut column = *task;
     for action in &mut column.table {
@@ -26,8 +26,10 @@ fn alone(task: &Task, fact: usize) -> Task {
         action.adds &= only(fact);
         action.deletes &= only(fact);
     }
-    column.start &= only(fact);
-    column.goal &= only(fact);
+    for run in &mut column.runs {
+        run.start &= only(fact);
+        run.goal &= only(fact);
+    }
     column
 }
 
@@ -80,14 +82,15 @@ pub fn rows(task: &Task, budget: Budget) -> Result<Vec<u16>, Stop> {
     Ok(rows)
 }
 
-/// "An edit names a kind of cell with its action and fact, or a start or goal fact."
+/// "An edit names a kind of cell with its action and fact, or a start or goal fact." 02: "A start or goal edit [..]
+/// name[s its] run."
 #[derive(Clone, Copy, PartialEq, Eq, Debug)]
 pub enum Cell {
     Need { action: u64 },
     Add { action: u64 },
     Delete { action: u64 },
-    Start,
-    Goal,
+    Start { run: u64 },
+    Goal { run: u64 },
 }
 
 #[derive(Clone, Copy, PartialEq, Eq, Debug)]
@@ -98,16 +101,16 @@ pub struct Edit {
 }
 
 impl Edit {
-    /// Refusal 14 if the fact, or the action of a cell, is not in the task.
+    /// Refusal 14 if the fact, the action of a cell, or the run of a start or goal, is not in the task.
     fn must_be_inside(&self, task: &Task) -> Result<(), Refusal> {
-        let action_inside = match self.cell {
+        let place_inside = match self.cell {
             Cell::Need { action } | Cell::Add { action } | Cell::Delete { action } => action < task.actions as u64,
-            Cell::Start | Cell::Goal => true,
+            Cell::Start { run } | Cell::Goal { run } => task.has_run(run),
         };
-        if action_inside && self.fact < task.facts as u64 {
+        if place_inside && self.fact < task.facts as u64 {
             Ok(())
         } else {
-            Err(plain(Ground::EditOutside))
+            Err(plain(Ground::NotThere))
         }
     }
 
@@ -116,8 +119,8 @@ impl Edit {
             Cell::Need { action } => &mut task.table[action as usize].needs,
             Cell::Add { action } => &mut task.table[action as usize].adds,
             Cell::Delete { action } => &mut task.table[action as usize].deletes,
-            Cell::Start => &mut task.start,
-            Cell::Goal => &mut task.goal,
+            Cell::Start { run } => &mut task.runs[run as usize].start,
+            Cell::Goal { run } => &mut task.runs[run as usize].goal,
         }
     }
 }

@@ -1,14 +1,17 @@
-//! A task: sizes, action table and run ("The model and its run", "Sizes"), well formed or not, and its 166 words.
+//! A task: sizes, action table and runs ("The model and its run", "Sizes"; 02, request 1), well formed or not, and its
+//! 636 words.
 
 use crate::refusal::{plain, Ground, Refusal};
 
 pub const MOST_FACTS: usize = 64;
 pub const MOST_ACTIONS: usize = 32;
 pub const MOST_STEPS: usize = 64;
+pub const MOST_RUNS: usize = 8;
 pub const HIGHEST_LIMIT: usize = 6;
 
-/// How many words a task crosses as: three sizes, three sets an action, start, goal, the number of steps, the steps.
-pub const WORDS: usize = 3 + 3 * MOST_ACTIONS + 3 + MOST_STEPS;
+/// How many words a task crosses as: three sizes, three sets an action, the number of runs, and of each run its start,
+/// its goal, its number of steps and its steps.
+pub const WORDS: usize = 3 + 3 * MOST_ACTIONS + 1 + MOST_RUNS * (3 + MOST_STEPS);
 
 /// A set of facts: fact f is in it if bit f is set.
 pub type Facts = u64;
@@ -38,13 +41,9 @@ pub struct Action {
     pub deletes: Facts,
 }
 
+/// One known run: where it starts, what must hold at its end, and its steps.
 #[derive(Clone, Copy, PartialEq, Eq, Debug)]
-pub struct Task {
-    /// F, A and L.
-    pub facts: usize,
-    pub actions: usize,
-    pub limit: usize,
-    pub table: [Action; MOST_ACTIONS],
+pub struct Run {
     pub start: Facts,
     pub goal: Facts,
     /// n, the number of steps.
@@ -52,28 +51,10 @@ pub struct Task {
     pub steps: [u8; MOST_STEPS],
 }
 
-impl Task {
-    /// The task of zeros. It is not well formed: it has no fact.
-    pub fn zeros() -> Task {
-        Task {
-            facts: 0,
-            actions: 0,
-            limit: 0,
-            table: [Action::default(); MOST_ACTIONS],
-            start: 0,
-            goal: 0,
-            count: 0,
-            steps: [0; MOST_STEPS],
-        }
-    }
-
-    pub fn sized(facts: usize, actions: usize, limit: usize) -> Task {
-        Task { facts, actions, limit, ..Task::zeros() }
-    }
-
-    /// The actions of the run, in order. Only for a well-formed task.
-    pub fn run(&self) -> impl Iterator<Item = &Action> {
-        self.steps[..self.count].iter().map(|&step| &self.table[step as usize])
+impl Run {
+    /// The run without start, goal and steps.
+    pub fn empty() -> Run {
+        Run { start: 0, goal: 0, count: 0, steps: [0; MOST_STEPS] }
     }
 
     pub fn push_step(&mut self, action: usize) {
@@ -81,14 +62,80 @@ impl Task {
         self.count += 1;
     }
 
-    /// "A task is well formed if its sizes are in range, no set has a fact at or above F, steps are below A, and
-    /// everything for unused actions and steps is zero."
-    pub fn well_formed(&self) -> bool {
-        self.sizes_in_range()
-            && self.sets().all(|set| (self.facts..MOST_FACTS).all(|fact| !has(set, fact)))
-            && self.steps[..self.count].iter().all(|&step| (step as usize) < self.actions)
-            && self.table[self.actions..].iter().all(|action| *action == Action::default())
+    /// The actions of the steps, by number. Only for a run of at most 64 steps.
+    pub fn steps(&self) -> &[u8] {
+        &self.steps[..self.count]
+    }
+
+    /// The actions of the steps, in order. Only for a run of a well-formed task with this table.
+    pub fn actions<'a>(&'a self, table: &'a [Action]) -> impl Iterator<Item = &'a Action> {
+        self.steps().iter().map(|&step| &table[step as usize])
+    }
+
+    /// At most 64 steps, all below A, zeros behind them, and no fact at or above F.
+    fn well_formed(&self, facts: usize, actions: usize) -> bool {
+        self.count <= MOST_STEPS
+            && self.steps().iter().all(|&step| (step as usize) < actions)
             && self.steps[self.count..].iter().all(|&step| step == 0)
+            && within(self.start, facts)
+            && within(self.goal, facts)
+    }
+}
+
+#[derive(Clone, Copy, PartialEq, Eq, Debug)]
+pub struct Task {
+    /// F, A and L.
+    pub facts: usize,
+    pub actions: usize,
+    pub limit: usize,
+    pub table: [Action; MOST_ACTIONS],
+    /// How many runs there are.
+    pub many: usize,
+    pub runs: [Run; MOST_RUNS],
+}
+
+impl Task {
+    /// The task of zeros. It is not well formed: it has no fact and no run.
+    pub fn zeros() -> Task {
+        Task {
+            facts: 0,
+            actions: 0,
+            limit: 0,
+            table: [Action::default(); MOST_ACTIONS],
+            many: 0,
+            runs: [Run::empty(); MOST_RUNS],
+        }
+    }
+
+    /// The task with these sizes, an empty table and one empty run.
+    pub fn sized(facts: usize, actions: usize, limit: usize) -> Task {
+        Task { facts, actions, limit, many: 1, ..Task::zeros() }
+    }
+
+    /// The runs that there are, in order. Only for a well-formed task.
+    pub fn known_runs(&self) -> &[Run] {
+        &self.runs[..self.many]
+    }
+
+    /// Opens a further run, an empty one.
+    pub fn open_run(&mut self) {
+        self.many += 1;
+    }
+
+    /// The run that was opened last.
+    pub fn last_run(&mut self) -> &mut Run {
+        &mut self.runs[self.many - 1]
+    }
+
+    /// "A task is well formed if its sizes are in range, no set has a fact at or above F, steps are below A, and
+    /// everything for unused actions and steps is zero." 02: "Everything for unused runs is zero."
+    pub fn well_formed(&self) -> bool {
+        sizes_in_range(self.facts, self.actions, self.limit)
+            && (1..=MOST_RUNS).contains(&self.many)
+            && self.table.iter().all(|action| within(action.needs | action.adds | action.deletes, self.facts))
+            && self.table[self.actions..].iter().all(|action| *action == Action::default())
+            && self.known_runs().iter().all(|run| run.well_formed(self.facts, self.actions))
+            && self.runs[self.many..].iter().all(|run| *run == Run::empty())
     }
 
     /// Refusal 12 if the task is not well formed.
@@ -100,23 +147,23 @@ impl Task {
         }
     }
 
-    fn sizes_in_range(&self) -> bool {
-        sizes_in_range(self.facts, self.actions, self.limit) && self.count <= MOST_STEPS
+    /// True if there is a run with this number, counted from 0.
+    pub fn has_run(&self, run: u64) -> bool {
+        run < self.many as u64
     }
 
-    fn sets(&self) -> impl Iterator<Item = Facts> + '_ {
-        let cells = self.table.iter().flat_map(|action| [action.needs, action.adds, action.deletes]);
-        cells.chain([self.start, self.goal])
-    }
-
-    /// The task's words: facts, actions, limit, needs, adds, deletes, start, goal, count, steps.
+    /// The task's words: facts, actions, limit, needs, adds, deletes, how many runs, their starts, goals and counts, and
+    /// the steps, 64 a run.
     pub fn words(&self) -> Vec<u64> {
         let mut words = vec![self.facts as u64, self.actions as u64, self.limit as u64];
         words.extend(self.table.iter().map(|action| action.needs));
         words.extend(self.table.iter().map(|action| action.adds));
         words.extend(self.table.iter().map(|action| action.deletes));
-        words.extend([self.start, self.goal, self.count as u64]);
-        words.extend(self.steps.iter().map(|&step| step as u64));
+        words.push(self.many as u64);
+        words.extend(self.runs.iter().map(|run| run.start));
+        words.extend(self.runs.iter().map(|run| run.goal));
+        words.extend(self.runs.iter().map(|run| run.count as u64));
+        words.extend(self.runs.iter().flat_map(|run| run.steps).map(u64::from));
         words
     }
 
@@ -126,20 +173,35 @@ impl Task {
             return Task::zeros();
         }
         let (sizes, rest) = words.split_at(3);
-        let (needs, rest) = rest.split_at(MOST_ACTIONS);
-        let (adds, rest) = rest.split_at(MOST_ACTIONS);
-        let (deletes, rest) = rest.split_at(MOST_ACTIONS);
-        let (ends, steps) = rest.split_at(3);
+        let (table, rest) = rest.split_at(3 * MOST_ACTIONS);
+        let (many, runs) = rest.split_at(1);
         let mut task = Task::sized(sizes[0] as usize, sizes[1] as usize, sizes[2] as usize);
         for (index, action) in task.table.iter_mut().enumerate() {
-            *action = Action { needs: needs[index], adds: adds[index], deletes: deletes[index] };
+            let [needs, adds, deletes] = [0, 1, 2].map(|set| table[set * MOST_ACTIONS + index]);
+            *action = Action { needs, adds, deletes };
         }
-        (task.start, task.goal, task.count) = (ends[0], ends[1], ends[2] as usize);
-        for (step, &word) in task.steps.iter_mut().zip(steps) {
-            *step = word.min(255) as u8;
+        task.many = many[0] as usize;
+        for (index, run) in task.runs.iter_mut().enumerate() {
+            *run = run_of_words(runs, index);
         }
         task
     }
+}
+
+/// The run with this number out of the words of all eight: the starts, the goals, the counts, the steps.
+fn run_of_words(words: &[u64], index: usize) -> Run {
+    let [start, goal, count] = [0, 1, 2].map(|part| words[part * MOST_RUNS + index]);
+    let mut run = Run { start, goal, count: count as usize, ..Run::empty() };
+    let steps = &words[3 * MOST_RUNS + index * MOST_STEPS..][..MOST_STEPS];
+    for (step, &word) in run.steps.iter_mut().zip(steps) {
+        *step = word.min(255) as u8;
+    }
+    run
+}
+
+/// True if the set has no fact at or above F.
+fn within(set: Facts, facts: usize) -> bool {
+    (facts..MOST_FACTS).all(|fact| !has(set, fact))
 }
 
 /// "F 1 to 64, A 1 to 32, limit L 0 to 6."

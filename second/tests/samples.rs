@@ -16,7 +16,7 @@ fn each_sample_has_its_listing() {
     let entries = fs::read_dir(folder).expect("the samples");
     let paths = entries.map(|entry| entry.expect("an entry of the folder").path());
     let tasks: Vec<_> = paths.filter(|path| path.extension().is_some_and(|end| end == "task")).collect();
-    assert_eq!(tasks.len(), 9);
+    assert!(tasks.len() >= 9, "only {} samples", tasks.len());
     for task in tasks {
         let stored = fs::read(task.with_extension("listing")).expect("the sample's listing");
         assert_eq!(listing_of(&task), stored, "{}", task.display());

@@ -8,7 +8,7 @@ use crate::protocol::{bytes_of, numbers_of, Call, Request, Response};
 use crate::random::Random;
 use crate::repair::{Repair, KINDS};
 use crate::session::{row_of, MORE_THAN_SIX, NO_LIST, ROW, TABLE, UNUSED};
-use crate::task::{Task, MOST_FACTS};
+use crate::task::{Task, MOST_FACTS, MOST_RUNS};
 
 fn request(call: Call, words: &[u64], bytes: Vec<u8>) -> Request {
     Request { call, words: words.to_vec(), bytes }
@@ -40,7 +40,7 @@ pub fn task(comparison: &mut Comparison, mut random: Random) -> Outcome<()> {
         comparison.ask(request(Call::Write, &words, random.bytes(length)))?;
     }
     comparison.ask(request(Call::Read, &[], file))?;
-    comparison.ask(request(Call::Check, &words, vec![]))?;
+    check_runs(comparison, &words, random)?;
     for _ in 0..2 {
         comparison.ask(request(Call::Apply, &words, bytes_of(&repair_list(&task, random))))?;
     }
@@ -52,7 +52,17 @@ pub fn task(comparison: &mut Comparison, mut random: Random) -> Outcome<()> {
     Ok(())
 }
 
-/// Solves into rooms of several lengths, applies the answer and checks the run that it leaves.
+/// Checks each run of the task that is read from these words, and one that isn't there.
+fn check_runs(comparison: &mut Comparison, words: &[u64], random: &mut Random) -> Outcome<()> {
+    let many = Task::from_words(words).many.min(MOST_RUNS) as u64;
+    let beyond = random.pick(&[many, MOST_RUNS as u64, 255, 256, 1 << 32, 1 << 63, u64::MAX]);
+    for run in (0..many).chain([beyond]) {
+        comparison.ask(request(Call::Check, &[words, &[run]].concat(), vec![]))?;
+    }
+    Ok(())
+}
+
+/// Solves into rooms of several lengths, applies the answer and checks the runs that it leaves.
 fn solve_and_apply(comparison: &mut Comparison, task: &Task, random: &mut Random) -> Outcome<()> {
     let words = task.words();
     let generous = comparison.ask(request(Call::Solve, &words, bytes_of(&random.numbers(8))))?;
@@ -63,7 +73,7 @@ fn solve_and_apply(comparison: &mut Comparison, task: &Task, random: &mut Random
     }
     let list = numbers_of(&response.bytes)[..length].to_vec();
     if let Some(applied) = comparison.ask(request(Call::Apply, &words, bytes_of(&list)))? {
-        comparison.ask(request(Call::Check, &applied.words[2..], vec![]))?;
+        check_runs(comparison, &applied.words[2..], random)?;
     }
     Ok(())
 }
@@ -96,7 +106,7 @@ fn malformed_task(comparison: &mut Comparison, words: &[u64], random: &mut Rando
     for call in [Call::Write, Call::Apply, Call::Solve, Call::Open] {
         comparison.ask(request(call, words, numbers.clone()))?;
     }
-    comparison.ask(request(Call::Check, words, vec![]))?;
+    check_runs(comparison, words, random)?;
     let edit = [words, &[random.below(5) as u64, 0, 0, 1]].concat();
     comparison.ask(request(Call::Edit, &edit, numbers))?;
     list(comparison, words, &random.numbers(length), &random.numbers(3))?;
@@ -113,7 +123,7 @@ pub fn file(comparison: &mut Comparison, mut random: Random) -> Outcome<()> {
     let task = if random.below(SELDOM) == 0 { full_task() } else { random_task(random) };
     let mut file = damaged(&file_of(&task), random);
     if random.below(SELDOM) == 0 {
-        file.resize(random.between(19_990, 20_010), random.pick(&[0, 7, 8]));
+        file.resize(random.between(23_990, 24_010), random.pick(&[0, 7, 8, 9]));
     }
     comparison.ask(request(Call::Read, &[], file.clone()))?;
     comparison.ask(request(Call::Listing, &[], file.clone()))?;
@@ -154,25 +164,32 @@ pub fn session(comparison: &mut Comparison, mut random: Random, wanted: usize) -
     Ok(())
 }
 
-/// One edit, mostly good, sometimes outside, sometimes with a table of a wrong length, sometimes both.
-fn edit(comparison: &mut Comparison, session: &mut Session, random: &mut Random) -> Outcome<()> {
-    let task = Task::from_words(&session.words);
+/// The four numbers of an edit, mostly of a good one. A start or goal names a run where the others name an action.
+fn random_edit(task: &Task, random: &mut Random) -> [u64; 4] {
     let far = random.pick(&[1 << 8, 1 << 32, 1 << 63, u64::MAX]);
-    let mut action = run_action(&task, random) as u64;
-    let mut fact = if random.chance(8) { random.below(task.facts) } else { busy_fact(&task, random) } as u64;
-    let mut table = session.table.clone();
+    let kind = random.below(5) as u64;
+    let (mut place, many) = match kind {
+        0..=2 => (run_action(task, random), task.actions),
+        _ => (random.below(task.many), task.many),
+    };
+    let mut fact = if random.chance(8) { random.below(task.facts) } else { busy_fact(task, random) } as u64;
     match random.below(32) {
-        0 | 1 => action = random.pick(&[task.actions as u64, far]),
+        0 | 1 => place = random.pick(&[many, MOST_RUNS.max(many), far as usize]),
         2 | 3 => fact = random.pick(&[task.facts as u64, far]),
         _ => {}
     }
+    [kind, place as u64, fact, random.pick(&[0, 0, 0, 1, 1, 2, far])]
+}
+
+/// One edit, mostly good, sometimes outside, sometimes with a table of a wrong length, sometimes both.
+fn edit(comparison: &mut Comparison, session: &mut Session, random: &mut Random) -> Outcome<()> {
+    let edit = random_edit(&Task::from_words(&session.words), random);
+    let mut table = session.table.clone();
     match random.below(16) {
         0 => table.truncate(random.pick(&[0, TABLE - 1])),
         1 => table.push(UNUSED),
         _ => {}
     }
-    let present = random.pick(&[0, 0, 0, 1, 1, 2, far]);
-    let edit = [random.below(5) as u64, action, fact, present];
     let words = [session.words.as_slice(), &edit].concat();
     let Some(response) = comparison.ask(request(Call::Edit, &words, bytes_of(&table)))? else { return Ok(()) };
     comparison.counts.edits += 1;
@@ -216,7 +233,7 @@ fn tamper(session: &mut Session, random: &mut Random) {
     let own = |code: usize| Repair { kind: KINDS[code / 32], action: code % 32, fact }.number();
     let code = random.below(95);
     let row = &mut session.table[fact * ROW..][..ROW];
-    match random.below(8) {
+    match random.below(9) {
         0 => row[0] = random.pick(&[0, 1, 2, 6, 7, 8, 9, UNUSED]),
         1 => row[random.between(1, ROW - 1)] = random.pick(&[0, own(code), own(code), UNUSED]),
         2 => row.copy_from_slice(&row_of(NO_LIST, &[])),
@@ -224,6 +241,7 @@ fn tamper(session: &mut Session, random: &mut Random) {
         4 => row.copy_from_slice(&row_of(1, &[own(code)])),
         5 => row.copy_from_slice(&row_of(2, &[own(code), own(code + 1)])),
         6 => row.swap(1, 2),
+        7 => row[ROW - 1] = random.pick(&[0, own(code), UNUSED - 1]),
         _ => row.copy_from_slice(&row_of(0, &[])),
     }
 }

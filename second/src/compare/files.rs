@@ -1,15 +1,17 @@
-//! Damage to task files: bits, bytes, records, sizes, cuts, and bytes that never were a file.
+//! Damage to task files: bits, bytes, records, runs, sizes, cuts, and bytes that never were a file.
 
-use crate::file::{body_length, records, END, STEP};
+use crate::file::{body_length, records, END, NEED, RUN, STEP};
 use crate::random::Random;
+use crate::task::MOST_RUNS;
 
 /// The file with some damage, or none.
 pub fn damaged(good: &[u8], random: &mut Random) -> Vec<u8> {
     let mut file = good.to_vec();
     for _ in 0..random.pick(&[0, 1, 1, 1, 1, 2, 3]) {
-        file = match random.below(4) {
+        file = match random.below(5) {
             0 | 1 => damage_records(&file, random),
             2 => damage_bytes(file, random),
+            3 => damage_runs(&file, random),
             _ => damage_ends(file, random),
         };
     }
@@ -31,7 +33,7 @@ fn damage_records(file: &[u8], random: &mut Random) -> Vec<u8> {
         3 if index > 0 => parts.swap(index - 1, index),
         4 => parts.insert(index, parts[other].clone()),
         5 => parts.insert(index, random_record(random)),
-        6 => parts[index][0] = random.between(0, END as usize + 1) as u8,
+        6 => parts[index][0] = random.between(0, RUN as usize + 1) as u8,
         _ => {
             let place = random.below(parts[index].len());
             parts[index][place] = edge_byte(random);
@@ -42,7 +44,10 @@ fn damage_records(file: &[u8], random: &mut Random) -> Vec<u8> {
 
 /// A record of a known kind with numbers that may or may not fit.
 fn random_record(random: &mut Random) -> Vec<u8> {
-    let kind = random.between(1, END as usize) as u8;
+    record_of_kind(random.between(1, RUN as usize) as u8, random)
+}
+
+fn record_of_kind(kind: u8, random: &mut Random) -> Vec<u8> {
     let length = body_length(kind).unwrap_or(0);
     let mut record = vec![kind];
     record.extend((0..length).map(|_| random.below(5) as u8));
@@ -51,7 +56,63 @@ fn random_record(random: &mut Random) -> Vec<u8> {
 
 /// A byte that stands at the edge of some range.
 fn edge_byte(random: &mut Random) -> u8 {
-    random.pick(&[0, 1, 2, 3, 6, 7, 8, 9, 31, 32, 33, 62, 63, 64, 65, 127, 128, 255])
+    random.pick(&[0, 1, 2, 3, 6, 7, 8, 9, 10, 31, 32, 33, 62, 63, 64, 65, 127, 128, 255])
+}
+
+/// Kind 9 at any place, further runs up to ten in all, any record in a further run, or a cut right behind a kind 9.
+fn damage_runs(file: &[u8], random: &mut Random) -> Vec<u8> {
+    let mut parts = split(file);
+    match random.below(5) {
+        0 => parts.insert(random.below(parts.len() + 1), vec![RUN]),
+        1 => parts.insert(random.below(parts.len().min(2) + 1), vec![RUN]),
+        2 => put_runs(&mut parts, random),
+        3 => put_in_further_run(&mut parts, random),
+        _ => cut_behind_run(&mut parts, random),
+    }
+    parts.concat()
+}
+
+/// Where the parts of the kind stand.
+fn places_of(parts: &[Vec<u8>], kind: u8) -> Vec<usize> {
+    (0..parts.len()).filter(|&index| parts[index][0] == kind).collect()
+}
+
+/// Where the file ends: before its end record, if it has one.
+fn place_of_end(parts: &[Vec<u8>]) -> usize {
+    parts.iter().position(|part| part[0] == END).unwrap_or(parts.len())
+}
+
+/// Further runs at the end, up to seven, eight, nine or ten in all; the last of them with a few records.
+fn put_runs(parts: &mut Vec<Vec<u8>>, random: &mut Random) {
+    let wanted = random.between(MOST_RUNS - 1, MOST_RUNS + 2);
+    let have = 1 + places_of(parts, RUN).len();
+    let place = place_of_end(parts);
+    for _ in 0..random.below(3) {
+        parts.insert(place, random_record(random));
+    }
+    for _ in have..wanted {
+        parts.insert(place, vec![RUN]);
+    }
+}
+
+/// A record, often of a table kind, behind some kind 9 of the file, or in a run put in for it.
+fn put_in_further_run(parts: &mut Vec<Vec<u8>>, random: &mut Random) {
+    if places_of(parts, RUN).is_empty() {
+        parts.insert(place_of_end(parts), vec![RUN]);
+    }
+    let first = places_of(parts, RUN)[0];
+    let record =
+        if random.chance(8) { record_of_kind(NEED + random.below(3) as u8, random) } else { random_record(random) };
+    parts.insert(random.between(first + 1, parts.len()), record);
+}
+
+/// The file up to a kind 9, and sometimes a kind byte behind it.
+fn cut_behind_run(parts: &mut Vec<Vec<u8>>, random: &mut Random) {
+    let places = places_of(parts, RUN);
+    if !places.is_empty() {
+        parts.truncate(random.pick(&places) + 1);
+        parts.extend(random.chance(8).then(|| vec![random.between(1, RUN as usize) as u8]));
+    }
 }
 
 /// Bits turned, bytes put in, taken out or replaced.
@@ -82,12 +143,16 @@ fn damage_ends(mut file: Vec<u8>, random: &mut Random) -> Vec<u8> {
     file
 }
 
-/// The file with its steps repeated up to 63, 64, 65 or 66.
+/// The file with the steps of some run repeated up to 63, 64, 65 or 66.
 fn with_many_steps(file: &[u8], random: &mut Random) -> Vec<u8> {
     let mut parts = split(file);
     let wanted = random.between(63, 66);
-    let have = parts.iter().filter(|part| part[0] == STEP).count();
-    let place = parts.iter().position(|part| part[0] >= STEP).unwrap_or(parts.len());
+    let begins = [vec![0], places_of(&parts, RUN)].concat();
+    let begin = random.pick(&begins);
+    let of_run = |part: &Vec<u8>| ![END, RUN].contains(&part[0]);
+    let own = parts.iter().skip(begin + 1).take_while(|part| of_run(part));
+    let have = own.clone().filter(|part| part[0] == STEP).count();
+    let place = (begin + 1 + own.count() - have).min(parts.len());
     for _ in have..wanted {
         parts.insert(place, vec![STEP, 0]);
     }
@@ -97,7 +162,7 @@ fn with_many_steps(file: &[u8], random: &mut Random) -> Vec<u8> {
 /// Bytes that never were a file, mostly small numbers, sometimes with a good size record first.
 fn random_bytes(random: &mut Random) -> Vec<u8> {
     let mut bytes = if random.chance(8) { vec![1, 4, 3, 2] } else { vec![] };
-    let highest = random.pick(&[4, 9, 256]);
+    let highest = random.pick(&[4, 10, 256]);
     bytes.extend((0..random.below(24)).map(|_| random.below(highest) as u8));
     bytes
 }

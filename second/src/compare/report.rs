@@ -16,7 +16,7 @@ pub enum Case {
     Session(usize),
 }
 
-/// A driver's response that is not what document 01 demands.
+/// A driver's response that is not what documents 01 and 02 demand.
 #[derive(Debug)]
 pub struct Difference {
     pub seed: u64,
@@ -68,7 +68,7 @@ fn hex(bytes: &[u8]) -> String {
     bytes.iter().map(|byte| format!("{byte:02x}")).collect::<Vec<_>>().join(" ")
 }
 
-const NUMBERS: usize = 16;
+const NUMBERS: usize = 17;
 const FIRST_NUMBERS: usize = 9;
 
 /// How much was compared, and what was met on the way.
