@@ -1,7 +1,7 @@
 """The source with the correction made: only the words that the repairs name are changed; comments and order are kept.
 
 A repair is of one action. Where an action statement names several, and they are not all repaired alike, the statement and its
-cells are said once for each run of names that are."""
+cells are said once for each part of the names that is."""
 
 import itertools
 
@@ -20,12 +20,12 @@ def text(source, repairs):
 
 def correct(source, block, asked, lines):
     names = [name.text for name in block.statement.names()]
-    runs = [(set(run), repairs) for repairs, run in itertools.groupby(names, asked.get)]
-    if len(runs) == 1 and not runs[0][1]:
+    parts = [(set(part), repairs) for repairs, part in itertools.groupby(names, asked.get)]
+    if len(parts) == 1 and not parts[0][1]:
         return
     last = (block.cells or [block.statement])[-1].word.line
-    for number, (run, repairs) in enumerate(runs):
-        made = block_lines(source, block, run, repairs)
+    for number, (part, repairs) in enumerate(parts):
+        made = block_lines(source, block, part, repairs)
         if number == 0:
             for line, becomes in made.items():
                 lines[line] = becomes
@@ -34,9 +34,9 @@ def correct(source, block, asked, lines):
             lines[last] = lines[last] + [line for line in copies if line.strip()]
 
 
-def block_lines(source, block, run, repairs):
+def block_lines(source, block, part, repairs):
     """The lines of a block, said of these names alone and with these repairs made: line by line what it becomes."""
-    made = {block.statement.word.line: [with_names(source, block.statement, run)]}
+    made = {block.statement.word.line: [with_names(source, block.statement, part)]}
     for statement in block.cells:
         dropped = {fact for kind, fact in repairs if DROPPED.get(kind) == statement.kind}
         made[statement.word.line] = without(source, statement, dropped)
@@ -54,11 +54,11 @@ def uncommented(line):
     return line.split("#")[0].rstrip(" \t") + ("\r" if line.endswith("\r") and "#" in line else "")
 
 
-def with_names(source, statement, run):
-    """An action statement with only the names of the run."""
-    if run == {name.text for name in statement.names()}:
+def with_names(source, statement, part):
+    """An action statement with only the names of the part."""
+    if part == {name.text for name in statement.names()}:
         return line_of(source, statement)
-    return respelt(line_of(source, statement), statement.words, run)
+    return respelt(line_of(source, statement), statement.words, part)
 
 
 def without(source, statement, dropped):
@@ -86,10 +86,10 @@ def respelt(line, words, kept):
 
 
 def spellings(word, kept):
-    """A word for each run of its kept names: a range, or a single name."""
+    """A word for each part of its kept names: a range, or a single name."""
     spelt = []
-    for is_kept, run in itertools.groupby(word.names(), lambda name: name.text in kept):
-        names = [name.text for name in run]
+    for is_kept, part in itertools.groupby(word.names(), lambda name: name.text in kept):
+        names = [name.text for name in part]
         if not is_kept:
             continue
         if len(names) == 1 or not word.parts():

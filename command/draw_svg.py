@@ -28,22 +28,44 @@ MARKS = [  # present, needed
 
 
 def svg(picture):
-    left = MARGIN + LETTER * (7 + max(draw_text.width(row.action) for row in picture.rows)) + 12
-    names = max((LETTER * draw_text.width(heading) for heading in picture.headings()), default=0)
-    upright = len(picture.facts) > 1  # one name alone stands level above its column
-    top = MARGIN + 2 * ROW + (names + 16 if upright else ROW)
-    side = max(COLUMN * len(picture.facts), LETTER * len("before"), 0 if upright else names) + GAP
-    right = left + len(picture.sides) * side - GAP
-    bottom = top + ROW * len(picture.rows) + 8
-    parts = [text(MARGIN, MARGIN + 12, picture.title, "head"), *rows(picture, top, right)]
-    for number, (heading, cells) in enumerate(picture.sides):
-        parts.append(text(left + number * side, MARGIN + 12 + ROW, heading, "head"))
-        parts += columns(picture, cells, left + number * side, top, upright)
+    grid = Grid(picture)
+    parts, bottom = [text(MARGIN, MARGIN + 12, picture.title, "head")], MARGIN
+    for run in picture.runs:
+        parts += drawn_run(picture, run, grid, bottom + ROW)
+        bottom += grid.height(run)
     told = sentences(picture)
     parts += [*legend(bottom), *(text(MARGIN, bottom + ROW * (2 + i) - 2, line) for i, line in enumerate(told))]
     lines = max(LETTER * draw_text.width(line) for line in [picture.title, *told])
-    width = max(right, MARGIN + max(lines, sum(LETTER * len(words) + MARK for _, words in MARKS))) + MARGIN
+    width = max(grid.right, MARGIN + max(lines, sum(LETTER * len(words) + MARK for _, words in MARKS))) + MARGIN
     return framed(width, bottom + ROW * (1 + len(told)) + MARGIN, picture.title, parts)
+
+
+class Grid:
+    """The widths that all runs share, and the room above their steps."""
+
+    def __init__(self, picture):
+        labels = [7 + draw_text.width(row.action) for run in picture.runs for row in run.rows]
+        labels += [draw_text.width(run.heading or "") for run in picture.runs]
+        names = max((LETTER * draw_text.width(heading) for heading in picture.headings()), default=0)
+        self.upright = len(picture.facts) > 1  # one name alone stands level above its column
+        self.left = MARGIN + LETTER * max(labels) + 12
+        self.side = max(COLUMN * len(picture.facts), LETTER * len("before"), 0 if self.upright else names) + GAP
+        self.right = self.left + len(picture.sides) * self.side - GAP
+        self.above = ROW + (names + 16 if self.upright else ROW)
+
+    def height(self, run):
+        return ROW + self.above + ROW * len(run.rows) + 8
+
+
+def drawn_run(picture, run, grid, y):
+    """A run from y down: its heading, those of its sides, and its steps."""
+    top = y + grid.above
+    parts = [text(MARGIN, y + 12, run.heading, "head")] if run.heading else []
+    parts += rows(run, top, grid.right)
+    for number, (heading, cells) in enumerate(zip(picture.sides, run.sides)):
+        parts.append(text(grid.left + number * grid.side, y + 12, heading, "head"))
+        parts += columns(picture, cells, grid.left + number * grid.side, top, grid.upright)
+    return parts
 
 
 def sentences(picture):
@@ -73,10 +95,10 @@ def text(x, y, words, kind="", upright=False):
     return f'<text x="{x:.1f}" y="{y:.1f}"{named}{turn} xml:space="preserve">{escape(words, quote=False)}</text>'
 
 
-def rows(picture, top, right):
+def rows(run, top, right):
     """A line for each step, with its number and its action; steps of a changed action are marked."""
     parts = []
-    for number, row in enumerate(picture.rows):
+    for number, row in enumerate(run.rows):
         y = top + ROW * number
         if row.changed:
             parts.append(f'<rect class="changed" x="{MARGIN}" y="{y}" width="{right - MARGIN:.1f}" height="{ROW}"/>')

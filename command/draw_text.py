@@ -38,18 +38,24 @@ def lines(picture, columns, coloured):
     """The drawing in so many columns: in several parts, one below the other, where the facts are too many."""
     if not picture.facts:
         return [f"{picture.title}: nothing is missing, and nothing is changed"]
-    actions = min(LONGEST_ACTION, max(width(row.action) for row in picture.rows))
+    actions = min(LONGEST_ACTION, max(width(row.action) for run in picture.runs for row in run.rows))
     left = 4 + len(GAP) + actions + len(CHANGED) + 1
     room = (columns - left) // len(picture.sides) - len(GAP)
     drawing = [picture.title]
-    facts = [short(heading, LONGEST_FACT) for heading in picture.headings()]
-    while facts:
-        start = len(picture.facts) - len(facts)
-        many = fitting(facts, room)
-        drawing += ["", *part(picture, start, facts[:many], actions, coloured)]
-        facts = facts[many:]
+    for run in picture.runs:
+        drawing += ["", *([run.heading] if run.heading else []), *run_lines(picture, run, room, actions, coloured)]
     drawing += ["", *LEGEND, *(f"{CHANGED.strip()}  changed: {change}" for change in picture.changes)]
     return drawing + [line for shared in picture.shared() for line in ["", *wrapped(shared, columns)]]
+
+
+def run_lines(picture, run, room, actions, coloured):
+    """A run's part, or parts, in so much room for each side."""
+    drawing, facts = [], [short(heading, LONGEST_FACT) for heading in picture.headings()]
+    while facts:
+        start, many = len(picture.facts) - len(facts), fitting(facts, room)
+        drawing += [*([""] if start else []), *part(picture, run, start, facts[:many], actions, coloured)]
+        facts = facts[many:]
+    return drawing
 
 
 def wrapped(sentence, columns):
@@ -70,17 +76,17 @@ def fitting(facts, room):
     return many
 
 
-def part(picture, start, facts, actions, coloured):
+def part(picture, run, start, facts, actions, coloured):
     across = max(side_width(facts), PITCH * len(facts), len("before"))
     left = " " * (4 + len(GAP) + actions + len(CHANGED) + 1)
-    headings = [fit(" " + heading, across) for heading, _ in picture.sides]
+    headings = [fit(" " + heading, across) for heading in picture.sides]
     drawing = [left + GAP.join(headings).rstrip()]
     for i, fact in enumerate(facts):
         names = [fit(" |  " * i + " " + fact, across) for _ in picture.sides]
         drawing.append(left + GAP.join(names).rstrip())
-    for number, row in enumerate(picture.rows):
+    for number, row in enumerate(run.rows):
         label = f"{row.step:>4}{GAP}{fit(row.action, actions)}{CHANGED if row.changed else '':{len(CHANGED)}} "
-        sides = [cells[number][start : start + len(facts)] for _, cells in picture.sides]
+        sides = [cells[number][start : start + len(facts)] for cells in run.sides]
         drawing.append((label + GAP.join(signs(side, across, coloured) for side in sides)).rstrip())
     return drawing
 

@@ -40,9 +40,11 @@ class Given:
         return task_of(self.data)
 
     def names(self):
+        """The lender's names; those of its runs only if it has as many."""
         if not self.lender:
             return words.Names()
-        return words.Names(self.lender.texts("facts"), self.lender.texts("action"))
+        runs = self.lender.run_texts() if len(self.lender.runs) == len(self.task().runs) else None
+        return words.Names(self.lender.texts("facts"), self.lender.texts("action"), runs)
 
     def refusal(self, what):
         """The line that tells a refusal. In a source its place is the statement that damages the file."""

@@ -3,8 +3,8 @@
 from errors import Error, meant
 from source import CELLS, NUMBERS
 
-MOST = {"facts": 64, "action": 32, "steps": 64, "limit": 6, "cut": 1_000_000, "fill": 1_000_000}
-NOUN = {"facts": "fact", "action": "action", "steps": "step"}
+MOST = {"facts": 64, "action": 32, "run": 8, "steps": 64, "limit": 6, "cut": 1_000_000, "fill": 1_000_000}
+NOUN = {"facts": "fact", "action": "action", "run": "run", "steps": "step"}
 
 
 def errors(source):
@@ -14,12 +14,14 @@ def errors(source):
     for word in NUMBERS:
         found += number_errors(source, word)
     for word in ("facts", "action"):
-        found += declaration_errors(source, word)
-    found += [error for word in ("start", "goal") for error in use_errors(known, word, source.names(word))]
+        found += declaration_errors(word, source.names(word)) + none_errors(source, word)
     for block in source.blocks:
         found += [error for word in CELLS for error in use_errors(known, word, cell_names(block, word))]
-    found += [unknown(known, name, "action", "facts") for name in source.names("steps")]
-    found += too_many(source, "steps")
+    found += opening_errors(source)
+    for run in source.runs:
+        found += [error for word in ("start", "goal") for error in use_errors(known, word, run.names(word))]
+        found += [unknown(known, name, "action", "facts") for name in run.names("steps")]
+        found += too_many("steps", run.names("steps"))
     return sorted({error for error in found if error})
 
 
@@ -47,21 +49,44 @@ def missing(source, what):
     return Error(last, 1, what)
 
 
-def declaration_errors(source, word):
-    """Of `facts` and `action`: at least one name, each once, and not too many."""
-    names, first, found = source.names(word), {}, too_many(source, word)
+def declaration_errors(word, names):
+    """Of the names of facts, actions or runs: each once, and not too many."""
+    first, found = {}, too_many(word, names)
     for name in names:
         before = first.setdefault(name.text, name)
         if before is not name:
             found.append(name.error(f"the {NOUN[word]} '{name.text}' is declared twice: first on line {before.word.line}"))
-    lines = {statement.word.line for statement in source.said[word]}
-    if not names and not any(error.line in lines for error in source.errors):
-        found.append(missing(source, f"there is no {NOUN[word]}"))
     return found
 
 
-def too_many(source, word):
-    names, most = source.names(word), MOST[word]
+def none_errors(source, word):
+    """Of `facts` and `action`: at least one name. Where a line of theirs has an error already, that one is enough."""
+    lines = {statement.word.line for statement in source.said[word]}
+    if source.names(word) or any(error.line in lines for error in source.errors):
+        return []
+    return [missing(source, f"there is no {NOUN[word]}")]
+
+
+def opening_errors(source):
+    """Of `run`: one name, each once, and not too many. What stands above every `run` is the first run if it has steps; a start
+    or a goal is not shared by runs."""
+    bad = {error.line for error in source.errors}
+    found = [one_name(statement) for statement in source.said["run"] if statement.word.line not in bad]
+    first, *further = source.runs
+    if further and not first.statement and not any(statement.kind == "steps" for statement in first.said):
+        rule = "is said of no run: it stands above every 'run', where no steps are, and each run says its own"
+        found += [statement.word.error(f"'{statement.kind}' {rule}") for statement in first.said]
+    return found + declaration_errors("run", [run.name() for run in source.runs if run.name()])
+
+
+def one_name(statement):
+    """The error that a run statement has no name, or more than one; else None."""
+    at = statement.words[0] if statement.words else statement.word
+    return at.error("'run' takes one name") if len(statement.names()) != 1 else None
+
+
+def too_many(word, names):
+    most = MOST[word]
     if len(names) <= most:
         return []
     return [names[most].error(f"'{names[most].text}' is {NOUN[word]} number {most + 1}, and there may be {most}")]

@@ -11,8 +11,8 @@ DRIVER = ROOT / "target" / "c" / "driver"
 READ, WRITE, CHECK, APPLY, SOLVE = 2, 3, 4, 5, 6
 
 # The places of a task's words (c/zernoplysk.h).
-AT_NEEDS, AT_GOAL, AT_COUNT, AT_STEPS = 3, 100, 101, 102
-ACTIONS, STEPS, LONGEST_FILE, LONGEST_LIST = 32, 64, 18821, 6
+AT_NEEDS, AT_MANY, AT_GOALS, AT_COUNTS, AT_STEPS = 3, 99, 108, 116, 124
+ACTIONS, STEPS, LONGEST_FILE, LONGEST_LIST = 32, 64, 21516, 6
 
 
 class Library:
@@ -31,9 +31,7 @@ class Library:
     def call(self, call, words, data=b""):
         """Makes one call that the library has to accept, and gives the words after number and place, and the bytes."""
         words, data = self.ask([(call, words, data)])[0]
-        if words[0] != 0:
-            raise Stop(UNABLE, f"mend: the library refuses with {words[0]} what the program accepts")
-        return words[2:], data
+        return accepted(words), data
 
     def task(self, data):
         return self.call(READ, [], data)[0]
@@ -48,21 +46,43 @@ class Library:
         return room[:length]
 
     def presence(self, task, facts):
-        """For each number of steps, from none to all, the facts of these that are present after so many. It is the run check
-        that says so: of the run cut there, with nothing needed, and the fact as the one goal."""
-        count, steps = task[AT_COUNT], task[AT_STEPS:]
-        asked = [(done, fact) for done in range(count + 1) for fact in facts]
-        requests = []
-        for done, fact in asked:
-            words = list(task)
-            words[AT_NEEDS : AT_NEEDS + ACTIONS] = [0] * ACTIONS
-            words[AT_GOAL:] = [1 << fact, done, *steps[:done], *[0] * (STEPS - done)]
-            requests.append((CHECK, words, b""))
-        states = [set() for _ in range(count + 1)]
-        for (done, fact), (words, _) in zip(asked, self.ask(requests)):
-            if words[:3] == [0, 0, 0]:
-                states[done].add(fact)
+        """For each run, and each number of its steps from none to all, the facts of these that are present after so many. It is
+        the run check that says so: of the run cut there, with nothing needed and these facts as its goals. Where it counts
+        some of them as absent and not all, each half is asked again."""
+        states = [[set() for _ in range(task[AT_COUNTS + run] + 1)] for run in range(task[AT_MANY])]
+        asked = [(run, done, list(facts)) for run, each in enumerate(states) for done in range(len(each))]
+        while asked:
+            further = []
+            for (run, done, goals), absent in zip(asked, self.absent(task, asked)):
+                if absent == 0:
+                    states[run][done].update(goals)
+                elif absent < len(goals):
+                    half = len(goals) // 2
+                    further += [(run, done, goals[:half]), (run, done, goals[half:])]
+            asked = further
         return states
+
+    def absent(self, task, asked):
+        """For each that is asked, (run, steps done, goals), how many of the goals are absent."""
+        requests = [(CHECK, [*cut(task, run, done, goals), run], b"") for run, done, goals in asked]
+        return [accepted(words)[0] for words, _ in self.ask(requests)]
+
+
+def accepted(words):
+    """What a call gave, after number and place; the library has to have accepted it."""
+    if words[0] != 0:
+        raise Stop(UNABLE, f"mend: the library refuses with {words[0]} what the program accepts")
+    return words[2:]
+
+
+def cut(task, run, done, goals):
+    """The task with this run cut after so many steps and with these goals, and nothing needed."""
+    words, at = list(task), AT_STEPS + STEPS * run
+    words[AT_NEEDS : AT_NEEDS + ACTIONS] = [0] * ACTIONS
+    words[AT_GOALS + run] = sum(1 << fact for fact in goals)
+    words[AT_COUNTS + run] = done
+    words[at + done : at + STEPS] = [0] * (STEPS - done)
+    return words
 
 
 def packed(call, words, data):

@@ -1,4 +1,5 @@
-"""The proved program's listing (document 01, "The listing"), taken apart. A listing that is not whole is no answer."""
+"""The proved program's listing (document 01, "The listing", and 02's request 1), taken apart. A listing that is not whole is
+no answer."""
 
 import re
 from dataclasses import dataclass
@@ -6,7 +7,8 @@ from dataclasses import dataclass
 KINDS = ("drop-delete", "add-effect", "drop-need")
 LIST_END = r"set (\d+)\n((?:(?:drop-delete|add-effect|drop-need) \d+ \d+\n)*)end\n"
 REFUSED = r"refused (\d+) (\d+)\n"
-WHOLE = re.compile(rf"task (\d+) (\d+) (\d+) (\d+)\nopen (\d+) (\d+) (\d+)\n(?:{LIST_END}|{REFUSED})|{REFUSED}")
+OPEN = r"open \d+ \d+ \d+\n"
+WHOLE = re.compile(rf"task (\d+ \d+ \d+ \d+)\n((?:{OPEN})+)(?:{LIST_END}|{REFUSED})|{REFUSED}")
 
 NO_LIST_WORKS, NONE_WITHIN_LIMIT = 9, 10
 
@@ -14,8 +16,8 @@ NO_LIST_WORKS, NONE_WITHIN_LIMIT = 9, 10
 @dataclass(frozen=True)
 class Listing:
     text: str
-    sizes: tuple = None  # facts, actions, limit, steps
-    open: tuple = None  # total, first step, its lowest fact
+    sizes: tuple = None  # facts, actions, limit, steps of all runs
+    opens: list = None  # of each run: total, first step, its lowest fact
     repairs: list = None  # kind, action, fact
     refusal: tuple = None  # number, place
 
@@ -25,16 +27,16 @@ def parsed(text):
     found = WHOLE.fullmatch(text)
     if not found:
         return None
-    groups = found.groups()
-    if groups[11]:
-        return Listing(text, refusal=numbers(groups[11:13]))
-    sizes, open_needs = numbers(groups[0:4]), numbers(groups[4:7])
-    if groups[9]:
-        return Listing(text, sizes, open_needs, refusal=numbers(groups[9:11]))
-    lines = [line.split() for line in groups[8].splitlines()]
-    if len(lines) != int(groups[7]):
+    sizes, opens, length, repairs, *refusals = found.groups()
+    if not sizes:
+        return Listing(text, refusal=numbers(refusals[2:]))
+    sizes, opens = numbers(sizes.split()), [numbers(line.split()[1:]) for line in opens.splitlines()]
+    if not length:
+        return Listing(text, sizes, opens, refusal=numbers(refusals[:2]))
+    lines = [line.split() for line in repairs.splitlines()]
+    if len(lines) != int(length):
         return None
-    return Listing(text, sizes, open_needs, [(kind, int(action), int(fact)) for kind, action, fact in lines])
+    return Listing(text, sizes, opens, [(kind, int(action), int(fact)) for kind, action, fact in lines])
 
 
 def numbers(texts):

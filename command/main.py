@@ -45,7 +45,7 @@ def mend(arguments, out):
     if found.sizes is None:
         raise Stop(REFUSED, given.refusal(words.refusal(found)))
     if "numbers" not in asked:
-        out.write("\n".join(words.answer(given.path, found, given.names(), given.task().steps)) + "\n")
+        out.write("\n".join(words.answer(given.path, found, given.names(), given.task().runs)) + "\n")
     if "show" in asked or "svg" in asked:
         draw(asked, given, found, out)
     if "table" in asked:

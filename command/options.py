@@ -6,7 +6,7 @@ from stop import UNABLE, Stop
 
 OPTIONS = {  # word: (what it takes, what it does)
     "numbers": (None, "print the proved program's listing, unchanged"),
-    "show": (None, "draw the run, before and after the correction"),
+    "show": (None, "draw each run, before and after the correction"),
     "svg": ("OUT", "write the same drawing as a picture"),
     "table": ("OUT", "write the source with the correction made"),
     "task": ("OUT", "write the source's task file"),
@@ -17,7 +17,7 @@ OPTIONS = {  # word: (what it takes, what it does)
 # Options that can't both be given, and why.
 APART = [("numbers", "show", "the listing would not be unchanged")]
 
-HELP = """mend FILE [OPTIONS]: what to change in an action table so that a run that the bench does is a valid one
+HELP = """mend FILE [OPTIONS]: what to change in an action table so that the runs that the bench does are valid ones
 
 FILE is a readable source (docs/SOURCE.md) or a task file; which of the two is seen from its content.
 

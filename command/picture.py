@@ -1,10 +1,10 @@
-"""What there is to draw of a run: for each step and fact whether it is present, needed, or both, before and after the
+"""What there is to draw of the runs: for each step and fact whether it is present, needed, or both, before and after the
 correction. Whether a fact is present is the library's answer (Library.presence); what is needed stands in the table."""
 
 from dataclasses import dataclass
 
 from stop import UNABLE, Stop
-from taskfile import GOAL, NEED, task_of
+from taskfile import NEED, task_of
 
 
 @dataclass(frozen=True)
@@ -30,11 +30,18 @@ MANY = 12  # with more facts than these, those that run alike share a column
 
 
 @dataclass(frozen=True)
+class Run:
+    heading: str  # None for a single run without a name
+    rows: list
+    sides: list  # for before, and for after where there is a correction: for each row a list of cells
+
+
+@dataclass(frozen=True)
 class Picture:
     title: str
-    facts: list  # the names of those that matter, a list for each column: missing somewhere, or changed
-    rows: list
-    sides: list  # (heading, for each row a list of cells): before, and after where there is a correction
+    facts: list  # the names of those that matter, a list for each column: missing somewhere in a run, or changed
+    sides: list  # the headings: before, and after where there is a correction
+    runs: list
     changes: list  # the repairs in words
 
     def headings(self):
@@ -48,47 +55,69 @@ class Picture:
 def drawn(file, data, found, names, library):
     """The picture of a task file for which the program gave this listing."""
     before = library.task(data)
-    tables = [("before", data, before)]
+    tables = [(data, before)]
     if found.repairs is not None:
         after = library.mended(before)
-        tables.append(("after", library.file(after), after))
+        tables.append((library.file(after), after))
     task, repairs = task_of(data), found.repairs or []
-    sides = [(side, cells_of(task_of(file_), library.presence(words, range(task.facts)))) for side, file_, words in tables]
+    sides = [cells_of(task_of(file_), library.presence(words, range(task.facts))) for file_, words in tables]
     hold_to_listing(found, sides)
     columns = columns_of(sides, task.facts, {fact for _, _, fact in repairs})
     changed = {action for _, action, _ in repairs}
-    rows = [Row(str(i), names.action(a), a in changed) for i, a in enumerate(task.steps, 1)] + [Row("", "(the end)", False)]
+    runs = [
+        Run(heading, rows_of(run, names, changed), [narrowed(rows, columns) for rows in of_run])
+        for heading, run, of_run in zip(names.headings(len(task.runs)), task.runs, zip(*sides))
+    ]
     return Picture(
-        f"the run of {file}",
+        f"the {'run' if len(runs) == 1 else 'runs'} of {file}",
         [[names.fact(f) for f in column] for column in columns],
-        rows,
-        [(side, [[row[column[0]] for column in columns] for row in cells]) for side, cells in sides],
+        ["before", "after"][: len(sides)],
+        runs,
         [names.repair(repair) for repair in repairs],
     )
 
 
+def rows_of(run, names, changed):
+    steps = [Row(str(number), names.action(action), action in changed) for number, action in enumerate(run.steps, 1)]
+    return [*steps, Row("", "(the end)", False)]
+
+
+def narrowed(rows, columns):
+    """Of the cells of all facts one for each column."""
+    return [[row[column[0]] for column in columns] for row in rows]
+
+
 def columns_of(sides, facts, changed):
-    """The facts that matter, a list of them for each column."""
-    run = {f: tuple(row[f] for _, cells in sides for row in cells) for f in range(facts)}
-    matter = [f for f in run if f in changed or any(cell.missing for cell in run[f])]
+    """The facts that matter, a list of them for each column; every run is drawn with the same columns."""
+    course = {f: tuple(row[f] for runs in sides for rows in runs for row in rows) for f in range(facts)}
+    matter = [f for f in course if f in changed or any(cell.missing for cell in course[f])]
     if len(matter) <= MANY:
         return [[f] for f in matter]
     alike = {}
     for f in matter:
-        alike.setdefault(run[f], []).append(f)
+        alike.setdefault(course[f], []).append(f)
     return list(alike.values())
 
 
-def cells_of(task, states):
-    """For each step, and the end, the cells of all facts: what is present before the step, and what its action needs."""
-    needs = [{fact for fact in range(task.facts) if (NEED, action, fact) in task.cells} for action in task.steps]
-    goals = {fact for fact in range(task.facts) if (GOAL, fact) in task.cells}
-    return [[Cell(f in state, f in needed) for f in range(task.facts)] for state, needed in zip(states, [*needs, goals])]
+def cells_of(task, presence):
+    """For each run, each of its steps, and the end, the cells of all facts: what is present before the step, and what its
+    action needs."""
+    return [run_cells(task, run, states) for run, states in zip(task.runs, presence)]
+
+
+def run_cells(task, run, states):
+    needs = [{fact for fact in range(task.facts) if (NEED, action, fact) in task.cells} for action in run.steps]
+    return [[Cell(f in state, f in needed) for f in range(task.facts)] for state, needed in zip(states, [*needs, run.goals])]
 
 
 def hold_to_listing(found, sides):
-    """A drawing that does not show the total, the first step and its lowest fact of the listing is not shown."""
-    for (_, rows), told in zip(sides, (found.open, (0, 0, 0))):
-        missing = [(step, f) for step, row in enumerate(rows, 1) for f, cell in enumerate(row) if cell.missing]
-        if (len(missing), *(missing[0] if missing else (0, 0))) != told:
-            raise Stop(UNABLE, "mend: the drawing does not show what the listing says, and is not shown")
+    """A drawing that does not show each run's total, first step and its lowest fact of the listing is not shown."""
+    told = [found.opens, [(0, 0, 0)] * len(found.opens)][: len(sides)]
+    if [[missing_in(rows) for rows in runs] for runs in sides] != told:
+        raise Stop(UNABLE, "mend: the drawing does not show what the listing says, and is not shown")
+
+
+def missing_in(rows):
+    """The total, the first step and its lowest fact of what a drawing shows as missing."""
+    missing = [(step, f) for step, row in enumerate(rows, 1) for f, cell in enumerate(row) if cell.missing]
+    return (len(missing), *(missing[0] if missing else (0, 0)))

@@ -6,6 +6,7 @@ import subprocess
 import listing
 from ready import ROOT, is_ready, make_ready
 from stop import UNABLE, Stop
+from taskfile import task_of
 
 RUN = ROOT / "c" / "run.sh"
 PROGRAM = ROOT / "target" / "bin" / "zernoplysk"
@@ -32,7 +33,12 @@ def listing_of(data):
             CHECKED.touch()
     ran = started(PROGRAM, data)
     found = listing.parsed(ran.stdout.decode("ascii", "replace"))
-    if ran.returncode != 0 or ran.stderr or not found:
+    if ran.returncode != 0 or ran.stderr or not found or not tells_each_run(found, data):
         said = ran.stderr.decode("utf-8", "replace").strip().splitlines()
         raise Stop(UNABLE, f"mend: the program's listing is not whole{': ' + said[-1] if said else ''}")
     return found
+
+
+def tells_each_run(found, data):
+    """Whether the listing has an open line for each run; that of a refused file has none."""
+    return found.sizes is None or len(found.opens) == len(task_of(data).runs)

@@ -7,9 +7,10 @@ from dataclasses import dataclass, field
 from errors import Error, meant, nearest
 
 CELLS = ("needs", "adds", "deletes")
-LISTS = ("facts", "start", "goal", "steps")
+OF_A_RUN = ("start", "goal", "steps")
 NUMBERS = ("limit", "cut", "fill")
-STATEMENTS = ("action", *LISTS, *CELLS, *NUMBERS)
+STATEMENTS = ("facts", "action", *CELLS, "run", *OF_A_RUN, *NUMBERS)
+FIRST_RUN = "1"  # what a first run without a name is called
 
 RANGE = re.compile(r"([^{}]*)\{([0-9]{1,4})\.\.([0-9]{1,4})\}([^{}]*)")
 MOST_SPELT = 64  # no list of names may be longer
@@ -78,10 +79,31 @@ class Block:
 
 
 @dataclass
+class Run:
+    """A run statement, which the first run may do without, and the statements of start, goal and steps that are said of it."""
+
+    statement: Statement = None
+    said: list = field(default_factory=list)
+
+    def name(self):
+        """None where its run statement has no name, or nothing is said of it."""
+        if self.statement:
+            return next(iter(self.statement.names()), None)
+        return Name(FIRST_RUN, self.said[0].word) if self.said else None
+
+    def names(self, word):
+        return [name for statement in self.said if statement.kind == word for name in statement.names()]
+
+    def texts(self, word):
+        return [name.text for name in self.names(word)]
+
+
+@dataclass
 class Source:
     lines: list  # of the text, without their line feeds
     said: dict = field(default_factory=lambda: {word: [] for word in STATEMENTS})
     blocks: list = field(default_factory=list)
+    runs: list = field(default_factory=list)  # at least one, once the text is read
     errors: list = field(default_factory=list)
 
     def names(self, word):
@@ -90,6 +112,10 @@ class Source:
 
     def texts(self, word):
         return [name.text for name in self.names(word)]
+
+    def run_texts(self):
+        """What the runs are called; None where no run statement is there."""
+        return [run.name().text for run in self.runs] if self.said["run"] else None
 
     def number(self, word):
         """The number of `limit`, `cut` or `fill`; None where it is not said."""
@@ -103,6 +129,7 @@ def read(text):
         words = [Word(found[0], number, found.start() + 1) for found in re.finditer(r"\S+", line.split("#")[0])]
         if words:
             take(source, words[0], words[1:])
+    source.runs = source.runs or [Run()]
     return source
 
 
@@ -126,4 +153,9 @@ def place(source, statement):
         source.blocks[-1].cells.append(statement)
     elif statement.kind in CELLS:
         source.errors.append(statement.word.error(f"'{statement.kind}' is said of no action: none stands above it"))
+    elif statement.kind == "run":
+        source.runs.append(Run(statement))
+    elif statement.kind in OF_A_RUN:
+        source.runs = source.runs or [Run()]
+        source.runs[-1].said.append(statement)
     source.said[statement.kind].append(statement)

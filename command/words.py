@@ -4,15 +4,16 @@ from dataclasses import dataclass
 
 import listing
 
-REFUSALS = {  # of a file (document 01, "Refusal numbers")
+REFUSALS = {  # of a file (document 01, "Refusal numbers"; 16: 02's request 1)
     1: "the end record is missing, or a record passes the end of the file",
     2: "no record has this kind",
     3: "the sizes don't stand first, or stand there twice",
     4: "a size is out of range",
     5: "a fact or an action is outside",
     6: "records are out of order",
-    7: "there are more than 64 steps",
+    7: "a run has more than 64 steps",
     8: "there are bytes after the end record",
+    16: "there are more than 8 runs",
 }
 
 REPAIRS = {
@@ -24,16 +25,23 @@ REPAIRS = {
 
 @dataclass(frozen=True)
 class Names:
-    """What facts and actions are called: by a source's names, or by their numbers."""
+    """What facts, actions and runs are called: by a source's names, or by their numbers."""
 
     facts: list = None
     actions: list = None
+    runs: list = None
 
     def fact(self, number):
         return self.facts[number] if self.facts else f"fact {number}"
 
     def action(self, number):
         return self.actions[number] if self.actions else f"action {number}"
+
+    def headings(self, many):
+        """What each of so many runs is headed by; a single one without a name by nothing."""
+        if many == 1 and not self.runs:
+            return [None]
+        return [f"run {name}" for name in self.runs or range(1, many + 1)]
 
     def repair(self, repair):
         kind, action, fact = repair
@@ -44,24 +52,33 @@ def counted(number, noun):
     return f"{number} {noun}{'' if number == 1 else 's'}"
 
 
-def answer(file, found, names, steps):
-    """The lines of the answer: what the table and the run are, what is missing, and what to change."""
+def answer(file, found, names, runs):
+    """The lines of the answer: what the table and the runs are, what is missing in each, and what to change."""
     facts, actions, limit, length = found.sizes
-    sizes = ", ".join([counted(facts, "fact"), counted(actions, "action"), counted(length, "step")])
-    return [f"{file}: {sizes}, at most {counted(limit, 'repair')}", "", *needs(found, names, steps), "", *change(found, names)]
+    steps = counted(length, "step") if len(runs) == 1 else f"{len(runs)} runs of {counted(length, 'step')} in all"
+    sizes = ", ".join([counted(facts, "fact"), counted(actions, "action"), steps, f"at most {counted(limit, 'repair')}"])
+    each = zip(names.headings(len(runs)), found.opens, runs)
+    missing = [line for heading, told, run in each for line in needs(heading, told, names, run.steps)]
+    return [f"{file}: {sizes}", "", *missing, "", *change(found, names)]
 
 
-def needs(found, names, steps):
-    total, step, fact = found.open
+def needs(heading, told, names, steps):
+    """What is missing in a run, by its line of the listing."""
+    total, step, fact = told
+    where = f" in {heading}" if heading else ""
     if total == 0:
-        return ["Nothing is missing: the run is valid as the table stands."]
+        return [f"Nothing is missing{where}: the run is valid as the table stands."]
     if step > len(steps):
         first = f"  at the end: the goal {names.fact(fact)} is absent"
     else:
         first = f"  step {step}, {names.action(steps[step - 1])}: needs {names.fact(fact)}, which is absent"
     if total == 1:
-        return ["One need is missing:", first]
-    return [f"{total} needs are missing; the first of them:", first]
+        return [f"One need is missing{where}:", first]
+    return [f"{total} needs are missing{where}; the first of them:", first]
+
+
+def all_of_them(found):
+    return "the run" if len(found.opens) == 1 else "every run"
 
 
 def change(found, names):
@@ -71,13 +88,14 @@ def change(found, names):
         return ["Nothing to change: the shortest list of repairs is the empty one."]
     heading = f"To change ({counted(len(found.repairs), 'repair')}):"
     lines = [f"  {names.repair(repair)}" for repair in found.repairs]
-    return [heading, *lines, "", "No shorter list makes the run valid, and of those as short this is the first in order."]
+    least = f"No shorter list makes {all_of_them(found)} valid, and of those as short this is the first in order."
+    return [heading, *lines, "", least]
 
 
 def no_list(found):
     if found.refusal[0] == listing.NO_LIST_WORKS:
-        return "No list of repairs, of any length, makes the run valid."
-    return f"A list of repairs makes the run valid, but none of at most {found.sizes[2]}, which is the limit."
+        return f"No list of repairs, of any length, makes {all_of_them(found)} valid."
+    return f"A list of repairs makes {all_of_them(found)} valid, but none of at most {found.sizes[2]}, which is the limit."
 
 
 def refusal(found):

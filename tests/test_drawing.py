@@ -30,6 +30,19 @@ action restore
 steps expose reset expose restore expose
 """ + "steps expose\n" * 59
 
+APART = """\
+limit 6
+facts a b
+action go
+run misses-a-and-has-a-name-that-is-longer-than-its-actions
+  goal  a
+  start b
+  steps go
+run misses-b
+  goal  b
+  steps go go
+"""
+
 FIRST = """\
 the run of samples/first.txt
 
@@ -48,8 +61,38 @@ Each line shows the facts before its step.
 """
 
 
+RUNS = """\
+the runs of samples/runs.txt
+
+run short
+                    before             after
+                    direction-known    direction-known
+   1   switch-on    .                  .
+   2   open-map     .                  .
+   3   turn      *  .                  .
+   4   sweep-to    [X]                [+]
+   5   store-row   [X]                [+]
+   6   close-map   [X]                [+]
+   7   go-home      .                  +
+       (the end)    .                  +
+
+run long
+                    before             after
+                    direction-known    direction-known
+   1   switch-on    .                  .
+   2   open-map     .                  .
+   3   turn      *  .                  .
+   4   sweep-to    [X]                [+]
+   5   store-row   [X]                [+]
+   6   next-line    .                  +
+   7   turn      *  .                  .
+   8   sweep-fro   [X]                [+]
+   9   store-row   [X]                [+]
+"""
+
+
 def shown(told):
-    return told[told.index("the run of") :]
+    return told[re.search("the runs? of", told).start() :]
 
 
 def in_terminal(arguments, **environment):
@@ -74,6 +117,19 @@ class Drawing(Case):
         told = self.expect(mend("samples/first.txt", "--show", cwd=ROOT), LIST)
         self.assertEqual(shown(told), FIRST)
 
+    def test_each_run(self):
+        told = shown(self.expect(mend("samples/runs.txt", "--show", cwd=ROOT), LIST))
+        self.assertEqual(told[: len(RUNS)], RUNS)
+        self.assertEqual((told.count("[X]"), told.count("(the end)")), (3 + 9 + 1, 2))  # and once in the legend
+        numbered = shown(self.expect(mend("samples/runs.task", "--show", cwd=ROOT), LIST))
+        self.assertEqual(re.findall(r"(?m)^run .*", numbered), ["run 1", "run 2"])
+
+    def test_runs_have_the_same_columns(self):
+        told = shown(self.expect(mend(self.file("a.txt", APART), "--show"), LIST))
+        first, second = told.split("\nrun ")[1:]
+        self.assertEqual(first.splitlines()[1:4], second.splitlines()[1:4])
+        self.assertEqual((first.count("[X]"), second.count("[X]")), (1, 1 + 1))  # and once in the legend
+
     def test_colours_repeat_the_signs(self):
         coloured = in_terminal(["samples/first.txt", "--show"])
         self.assertEqual(len(re.findall(r"\033\[1;31m\[X\]\033\[0m", coloured)), 2)
@@ -85,8 +141,8 @@ class Drawing(Case):
     def test_narrow_terminals_get_parts(self):
         told = shown(self.expect(mend("samples/wordiest.txt", "--show", cwd=ROOT, env={**os.environ, "COLUMNS": "60"}), LIST))
         self.assertLessEqual(max(map(len, told.splitlines()[:-9])), 60)
-        self.assertEqual(told.count("(the end)"), 2)
-        self.assertEqual(told.count("[X]"), 198 + 1)  # and once in the legend
+        self.assertEqual(told.count("(the end)"), 8 * 2)
+        self.assertEqual(told.count("[X]"), 8 * 102 + 1)  # and once in the legend
 
     def test_64_facts_and_64_steps(self):
         told = shown(self.expect(mend(self.file("many.txt", MANY), "--show"), NO_LIST))
@@ -102,36 +158,66 @@ class Drawing(Case):
 
     def test_nothing_missing(self):
         told = self.expect(mend("samples/fullest.txt", "--show", cwd=ROOT), LIST)
-        self.assertEqual(shown(told), "the run of samples/fullest.txt: nothing is missing, and nothing is changed\n")
+        self.assertEqual(shown(told), "the runs of samples/fullest.txt: nothing is missing, and nothing is changed\n")
 
     def test_wide_letters_take_two_columns(self):
         fitted = [draw_text.fit(text, 6) for text in ("ab", "日本", "日本語本", "abcdefgh")]
         self.assertEqual(fitted, ["ab    ", "日本  ", "日本..", "abcd.."])
 
     def test_a_drawing_that_the_listing_denies_is_not_shown(self):
-        missing = [("before", [[picture.Cell(present=False, needed=True)]])]
-        picture.hold_to_listing(Listing("", open=(1, 1, 0)), missing)
+        missing, whole = [[picture.Cell(present=False, needed=True)]], [[picture.Cell(present=True, needed=True)]]
+        right = Listing("", opens=[(1, 1, 0), (0, 0, 0)])
+        picture.hold_to_listing(right, [[missing, whole]])
+        picture.hold_to_listing(right, [[missing, whole], [whole, whole]])
         for told in ((0, 0, 0), (2, 1, 0), (1, 2, 0), (1, 1, 1)):
-            with self.assertRaises(Stop) as stopped:
-                picture.hold_to_listing(Listing("", open=told), missing)
-            self.assertEqual(stopped.exception.status, 3)
+            for opens in ([told], [told, (0, 0, 0)], [(0, 0, 0), told]):
+                with self.assertRaises(Stop) as stopped:
+                    picture.hold_to_listing(Listing("", opens=opens), [[missing, whole]])
+                self.assertEqual(stopped.exception.status, 3)
         with self.assertRaises(Stop):
-            picture.hold_to_listing(Listing("", open=(1, 1, 0)), missing * 2)
+            picture.hold_to_listing(right, [[missing, whole], [whole, missing]])
 
     def test_it_is_not_shown_by_mend_either(self):
         out = io.StringIO()
-        with mock.patch.object(library.Library, "presence", lambda self, task, facts: [set(facts)] * 20):
+        with mock.patch.object(library.Library, "presence", lambda self, task, facts: [[set(facts)] * 20]):
             with self.assertRaises(Stop) as stopped:
                 main.mend([str(SAMPLES / "story.txt"), "--show", "--svg", str(self.folder / "out")], out)
         told = "mend: the drawing does not show what the listing says, and is not shown"
         self.assertEqual((stopped.exception.status, stopped.exception.lines), (3, (told,)))
         self.assertNotIn("the run of", out.getvalue())
+
+    def test_presence_is_asked_of_the_run_check(self):
+        states = [[{0, 1, 2}, {1}], [{0, 2}], [set(), {0, 1, 2}, {2}]]  # of three runs, after each number of steps
+        task = [0] * 636
+        task[library.AT_MANY], task[library.AT_COUNTS : library.AT_COUNTS + 3] = 3, [1, 0, 2]
+
+        def checked(requests):
+            for call, (*words, run), _ in requests:
+                self.assertEqual((call, len(words)), (library.CHECK, 636))
+                goals = {fact for fact in range(3) if words[library.AT_GOALS + run] >> fact & 1}
+                yield [0, 0, len(goals - states[run][words[library.AT_COUNTS + run]]), 0, 0], b""
+
+        calls = library.Library.__new__(library.Library)
+        with mock.patch.object(calls, "ask", lambda requests: list(checked(requests))):
+            self.assertEqual(calls.presence(task, range(3)), states)
+        with mock.patch.object(calls, "ask", lambda requests: [([14, 0, 0, 0, 0], b"")] * len(requests)):
+            with self.assertRaises(Stop):
+                calls.presence(task, range(3))
+
+    def test_a_run_is_cut_where_it_is_asked(self):
+        task = list(range(1, 637))
+        words = library.cut(task, 2, 3, [0, 63])
+        steps = library.AT_STEPS + 2 * 64
+        changed = {**{at: 0 for at in range(3, 35)}, library.AT_GOALS + 2: 1 | 1 << 63, library.AT_COUNTS + 2: 3}
+        changed |= {at: 0 for at in range(steps + 3, steps + 64)}
+        self.assertEqual(words, [changed.get(at, word) for at, word in enumerate(task)])
         self.assertFalse((self.folder / "out").exists())
 
     def test_facts_that_matter(self):
         cells = {"present": picture.Cell(True, False), "missing": picture.Cell(False, True)}
-        sides = [("before", [[cells["present"], cells["missing"], cells["present"]]])]
-        self.assertEqual(picture.columns_of(sides, 3, {2}), [[1], [2]])
+        present, missing = [[cells["present"]] * 4], [[cells["present"], cells["missing"], cells["present"], cells["present"]]]
+        self.assertEqual(picture.columns_of([[missing]], 4, {2}), [[1], [2]])
+        self.assertEqual(picture.columns_of([[present, missing], [present, present]], 4, {2}), [[1], [2]])
 
 
 class Picture(Case):
@@ -150,8 +236,18 @@ class Picture(Case):
         for words in ("before", "after", "direction-known", "  3  turn *", "* changed: turn should make direction-known true"):
             self.assertIn(words, texts)
 
+    def test_each_run(self):
+        root = self.svg(SAMPLES / "runs.txt", LIST)
+        self.assertEqual(self.count(root, "missing"), 3 + 9 + 1)  # and once in the legend
+        texts = [each.text for each in root.iter("{http://www.w3.org/2000/svg}text")]
+        self.assertEqual([text for text in texts if text.startswith("run ")], ["run short", "run long"])
+        self.assertEqual((texts.count("before"), texts.count("after"), texts.count("     (the end)")), (2, 2, 2))
+        rows = [float(each.get("y")) for each in root.iter() if (each.text or "").strip() == "1  switch-on"]
+        self.assertGreater(rows[1], rows[0] + 20 * 7)
+
     def test_everything_lies_inside(self):
-        pictures = {SAMPLES / "wordiest.txt": LIST, SAMPLES / "fullest.txt": LIST, self.file("many.txt", MANY): NO_LIST}
+        pictures = {SAMPLES / f"{name}.txt": LIST for name in ("runs", "wordiest", "fullest")}
+        pictures |= {self.file("many.txt", MANY): NO_LIST, self.file("apart.txt", APART): LIST}
         for path, status in pictures.items():
             root = self.svg(path, status)
             width, height = float(root.get("width")), float(root.get("height"))

@@ -31,11 +31,12 @@ class Faults(unittest.TestCase):
 
     def test_places_are_the_librarys(self):
         self.random = random.Random(20262)
-        small = [(SAMPLES / f"{name}.task").read_bytes() for name in ("first", "story", "pairs", "over", "hopeless")]
+        small = [(SAMPLES / f"{name}.task").read_bytes() for name in ("first", "story", "runs", "pairs", "over", "hopeless")]
+        small += [b"\1\2\2\0" + b"\11" * 7 + b"\10", b"\1\2\2\0\2\1\4\0\1" + b"\11\2\0\3\1\7\1\7\0" * 7 + b"\10"]
         full = (SAMPLES / "fullest.task").read_bytes()
         files = [self.changed(self.random.choice(small)) for _ in range(self.COUNT)] + [self.changed(full) for _ in range(60)]
-        files += [b"", full, full + b"\0", full[:-1] + b"\7\0\10"]
+        files += [b"", full, full + b"\0", full[:-1] + b"\7\0\10", full[:-1] + b"\11\10"]
         told = [(words[0], words[1]) for words, _ in library.Library().ask([(library.READ, [], data) for data in files])]
         for data, (number, place) in zip(files, told):
             self.assertEqual(taskfile.fault(data), place if number else None, (number, data[:200].hex()))
-        self.assertEqual({number for number, _ in told}, set(range(9)))
+        self.assertEqual({number for number, _ in told}, {*range(9), 16})

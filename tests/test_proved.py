@@ -77,7 +77,7 @@ class Stands(Case):
         self.assertEqual(self.started(), [])
 
     def test_a_torn_file_is_refused_without_the_program(self):
-        for name, place in (("damaged.task", "35"), ("trailing.task", "18821")):
+        for name, place in (("damaged.task", "35"), ("trailing.task", "21516")):
             path = SAMPLES / name
             self.expect(self.mend(path), REFUSED, f"{path}: refused at byte {place}, before the program is proved and built")
 
@@ -123,7 +123,8 @@ class Stands(Case):
         (self.root / "target/bin/zernoplysk").touch()
         lines = LISTING.splitlines(keepends=True)
         cut = ["".join(lines[:count]) for count in range(len(lines))]
-        for text in [*cut, LISTING[:-1], LISTING + "x\n", LISTING.replace("set 1", "set 2")]:
+        more = LISTING.replace(lines[1], lines[1] * 2)  # an open line for a run that isn't there
+        for text in [*cut, LISTING[:-1], LISTING + "x\n", LISTING.replace("set 1", "set 2"), more]:
             self.script("c/run.sh", f"printf '%s' '{text}'")
             told = self.expect(self.mend(SAMPLES / "story.txt"), UNABLE, "mend: the program's listing is not whole")
             self.assertEqual(told, "")

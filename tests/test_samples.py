@@ -5,13 +5,13 @@ import re
 from support import LIST, NO_LIST, REFUSED, ROOT, SAMPLES, Case, mend
 
 STATUS = {
-    "first": LIST, "story": LIST, "pairs": LIST, "fullest": LIST, "wordiest": LIST,
+    "first": LIST, "story": LIST, "runs": LIST, "pairs": LIST, "fullest": LIST, "wordiest": LIST,
     "hopeless": NO_LIST, "over": NO_LIST, "damaged": REFUSED, "trailing": REFUSED,
 }  # fmt: skip
-PLACES = {"damaged": ":20:1", "trailing": ":15:1"}
+PLACES = {"damaged": ":20:1", "trailing": ":51:1"}
 REFUSALS = {
     "damaged": "refused 1 at byte 35: the end record is missing, or a record passes the end of the file",
-    "trailing": "refused 8 at byte 18821: there are bytes after the end record",
+    "trailing": "refused 8 at byte 21516: there are bytes after the end record",
 }
 
 STORY = """\
@@ -31,9 +31,10 @@ NUMBERS = {"sweep": "action 3", "known": "fact 4", "turn": "action 2"}
 WORDS = {
     "first": ["  sweep should not end laser-ready", "  warm-up should make direction-known true", "To change (2 repairs):"],
     "pairs": [f"  move-{number} should not end shutter-open" for number in range(1, 7)],
-    "wordiest": ["198 needs are missing; the first of them:", "  tilt should not end row-63"],
-    "fullest": ["Nothing is missing: the run is valid as the table stands."],
+    "wordiest": ["102 needs are missing in run panel-8; the first of them:", "  tilt should not end row-63"],
+    "fullest": [f"Nothing is missing in run panel-{number}: the run is valid as the table stands." for number in range(1, 9)],
     "hopeless": ["  at the end: the goal map-complete is absent", "No list of repairs, of any length, makes the run valid."],
+    "runs": ["3 needs are missing in run short; the first of them:", "  turn should make direction-known true"],
     "over": ["A list of repairs makes the run valid, but none of at most 6, which is the limit."],
 }
 
@@ -41,6 +42,10 @@ WORDS = {
 class Samples(Case):
     def test_every_sample_is_here(self):
         self.assertEqual({path.stem for path in SAMPLES.glob("*.txt")}, set(STATUS))
+
+    def test_the_gate_runs_the_program_on_every_sample(self):
+        looped = re.search(r"for sample in (.*); do", (ROOT / ".ci" / "run").read_text())
+        self.assertEqual(sorted(looped[1].split()), sorted(STATUS))
 
     def test_numbers_are_the_listing(self):
         for name, status in STATUS.items():

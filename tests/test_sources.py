@@ -6,6 +6,8 @@ HEAD = "limit 3\nfacts a-known b\n"
 TAIL = "action go\nsteps go\n"
 RANGE = "is no range: one is written {1..3}, runs upwards, and has at most 64 numbers"
 LIMIT = "'limit' takes one number from 0 to 6"
+ONE_NAME = "'run' takes one name"
+NO_RUN = "is said of no run: it stands above every 'run', where no steps are, and each run says its own"
 
 ERRORS = {  # a source: its errors
     "limit 7\nfacts a\n" + TAIL: [f"1:7: {LIMIT}"],
@@ -41,6 +43,19 @@ ERRORS = {  # a source: its errors
     "limit 3\nfacts f-{1..60} g-{1..5}\n" + TAIL: ["2:17: 'g-5' is fact number 65, and there may be 64"],
     HEAD + TAIL + "action s-{1..32}\n": ["5:8: 's-32' is action number 33, and there may be 32"],
     HEAD + TAIL + "steps" + " go" * 64 + "\n": ["5:196: 'go' is step number 65, and there may be 64"],
+    HEAD + TAIL + "run\n": [f"5:1: {ONE_NAME}"],
+    HEAD + TAIL + "run long way\n": [f"5:5: {ONE_NAME}"],
+    HEAD + TAIL + "run r-{1..2}\n": [f"5:5: {ONE_NAME}"],
+    HEAD + TAIL + "run r-{2..1}\n": [f"5:5: 'r-{{2..1}}' {RANGE}"],
+    HEAD + TAIL + "runs long\nstart b\n": ["5:1: 'runs' is no statement; did you mean 'run'?"],
+    HEAD + TAIL + "run a\nrun b\nrun a\n": ["7:5: the run 'a' is declared twice: first on line 5"],
+    HEAD + TAIL + "run 1\n": ["5:5: the run '1' is declared twice: first on line 4"],
+    HEAD + "action go\n" + "".join(f"run r-{n}\n" for n in range(1, 11)): ["12:5: 'r-9' is run number 9, and there may be 8"],
+    HEAD + TAIL + "".join(f"run r-{n}\n" for n in range(2, 10)): ["12:5: 'r-9' is run number 9, and there may be 8"],
+    HEAD + "action go\nstart b\ngoal b\nrun a\nsteps go\n": [f"4:1: 'start' {NO_RUN}", f"5:1: 'goal' {NO_RUN}"],
+    HEAD + TAIL + "run a\nstart b\nrun c\nstart b\nstart b\n": ["9:7: 'b' is said twice under 'start': first on line 8"],
+    HEAD + TAIL + "run a\ngoal zzz\nsteps b\n": ["6:6: there is no fact 'zzz'", "7:7: 'b' is no action, but a fact"],
+    HEAD + TAIL + "run a\nsteps" + " go" * 65 + "\n": ["6:199: 'go' is step number 65, and there may be 64"],
     HEAD + TAIL + "cut many\n": ["5:5: 'cut' takes one number from 0 to 1000000"],
     HEAD + TAIL + "fill 9999999\n": ["5:6: 'fill' takes one number from 0 to 1000000"],
 }

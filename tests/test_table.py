@@ -53,6 +53,21 @@ action c
 steps b a-2 c
 """
 
+RUN_BETWEEN = """\
+limit 2
+facts a b c
+start c
+goal  b
+steps go
+action go
+run other  # between an action and its cells
+  start a c
+  needs c
+  goal  b c
+  steps go
+  deletes c
+"""
+
 
 class Table(Case):
     def table(self, path):
@@ -72,6 +87,18 @@ class Table(Case):
         before = (SAMPLES / "first.txt").read_text()
         after = before.replace("  deletes laser-ready\n", "").replace("adds  laser-ready", "adds  laser-ready direction-known")
         self.assertEqual(self.table(SAMPLES / "first.txt"), after)
+
+    def test_one_table_for_all_runs(self):
+        before = (SAMPLES / "runs.txt").read_text()
+        turn = "action turn                     # faces the other way\n  needs laser-on\n"
+        self.assertEqual(self.table(SAMPLES / "runs.txt"), before.replace(turn, turn + "  adds  direction-known\n"))
+        again = self.expect(mend(self.folder / "out"), LIST)
+        for name in ("short", "long"):
+            self.assertIn(f"Nothing is missing in run {name}: the run is valid as the table stands.", again)
+
+    def test_cells_below_a_run_are_corrected_there(self):
+        path = self.file("a.txt", RUN_BETWEEN)
+        self.assertEqual(self.table(path), RUN_BETWEEN.replace("  deletes c\n", "  adds  b\n"))
 
     def test_ranges_are_cut(self):
         before = (SAMPLES / "wordiest.txt").read_text()
@@ -129,7 +156,9 @@ class RandomTables(unittest.TestCase):
             for part in (words[:cut], words[cut:]):
                 said = kind + pick([" ", "   "]) + pick([" ", "  "]).join(part)
                 lines.append(pick(["  ", "\t"]) + said + pick(["", "", " # f-1"]))
-        lines.insert(self.random.randint(1, len(lines)), pick(["", "# alone", "steps a-0"]))
+        between = [[""], ["# alone"], ["steps a-0"], [f"run r-{first}", "start f-0", "goal f-0 # f-1", "steps a-0"]]
+        at = self.random.randint(1, len(lines))
+        lines[at:at] = pick(between)
         return lines
 
     def ranges_in_order(self, first, count):

@@ -70,7 +70,9 @@ class Input(Case):
             b"\x01\x41\x01\x01\x08": "refused 4 at byte 0: a size is out of range",
             b"\x01\x01\x01\x01\x02\x01\x08": "refused 5 at byte 4: a fact or an action is outside",
             b"\x01\x02\x01\x01\x02\x01\x02\x00\x08": "refused 6 at byte 6: records are out of order",
-            b"\x01\x01\x01\x01" + b"\x07\x00" * 65 + b"\x08": "refused 7 at byte 132: there are more than 64 steps",
+            b"\x01\x01\x01\x01" + b"\x07\x00" * 65 + b"\x08": "refused 7 at byte 132: a run has more than 64 steps",
+            b"\x01\x01\x01\x01\x09\x04\x00\x00\x08": "refused 6 at byte 5: records are out of order",
+            b"\x01\x01\x01\x01" + b"\x09" * 8 + b"\x08": "refused 16 at byte 11: there are more than 8 runs",
         }
         for content, refusal in cases.items():
             with self.subTest(refusal=refusal):
