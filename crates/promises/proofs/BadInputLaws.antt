@@ -34,8 +34,9 @@ use Rattle.table.specs.declared.Reply.{Reply}
 use Rattle.table.specs.declared.Task.{Task}
 use Rattle.table.specs.declared.TaskReply.{TaskReply}
 use Rattle.taskformat.proofs.FilesAreTasks.{accepted-exactly, accepted-read}
+use Rattle.taskformat.proofs.Places.{read-marks}
 use Rattle.taskformat.specs.Format.{fileOf}
-use Rattle.taskformat.specs.Reading.{Seen, noTask, faultsAt, faultAt, Reads, ReadsFile, faulty, good, ended, trailing}
+use Rattle.taskformat.specs.Reading.{Seen, noTask, faultsAt, faultAt, Marks, Reads, ReadsFile, faulty, good, ended, trailing}
 use Rattle.taskfile.specs.Records.{recordFault, recordAt, wholeRecord, refusedRecord}
 use Rattle.taskfile.specs.declared.record.Record.{Record}
 use Rattle.taskwriter.specs.Writing.{written}
@@ -61,37 +62,39 @@ fault-number s at seen =
     firstOf-in FileNumber (faultsAt s at seen) (inl (omega arith))
     (inl (omega arith), (inl (omega arith), (inl (omega arith), (inl (omega arith), (inl (omega arith), (inl (omega arith), (inl (omega arith), (inr refl, (inl (omega arith), tt)))))))))
 
--- What a refused read gives.
-pub record BadFile (r : TaskReply) : Type 0 where
+-- What a refused read gives. The byte that it marks (02, request 2) is there to be marked, or the file ends where more has to come.
+pub record BadFile (s : List ℕ) (r : TaskReply) : Type 0 where
   pub numbered : (0 < r .number) × FileNumber (r .number)
   pub zeros : r .task ≡ noTask
+  pub marked : Marks s (r .number) (r .place)
 
-bad-from : {s : List ℕ} {r : TaskReply} {at : ℕ} {seen : Seen} → Reads s r at seen → (r .number ≡ accepted → ⊥) → BadFile r
-bad-from {s} (faulty {at} {seen} f e) nonzero = record {
-  numbered = (
-    omega (arith, ap (λ (q : TaskReply). q .number) e),
-    subst FileNumber (ap (λ (q : TaskReply). q .number) (sym e)) (fault-number s at seen),
-  );
-  zeros = ap (λ (q : TaskReply). q .task) e;
-}
+bad-from : {s : List ℕ} {r : TaskReply} {at : ℕ} {seen : Seen} → Reads s r at seen → (r .number ≡ accepted → ⊥)
+    → (0 < r .number) × FileNumber (r .number) × (r .task ≡ noTask)
+bad-from {s} (faulty {at} {seen} f e) nonzero = (
+  omega (arith, ap (λ (q : TaskReply). q .number) e),
+  subst FileNumber (ap (λ (q : TaskReply). q .number) (sym e)) (fault-number s at seen),
+  ap (λ (q : TaskReply). q .task) e,
+)
 bad-from (good c more rest) nonzero = bad-from rest nonzero
 bad-from (ended c is last e) nonzero = absurd (nonzero (ap (λ (q : TaskReply). q .number) e))
-bad-from (trailing c is more e) nonzero = record {
-  numbered = (omega (arith, ap (λ (q : TaskReply). q .number) e), inl (omega (arith, ap (λ (q : TaskReply). q .number) e)));
-  zeros = ap (λ (q : TaskReply). q .task) e;
-}
+bad-from (trailing c is more e) nonzero = (
+  omega (arith, ap (λ (q : TaskReply). q .number) e),
+  inl (omega (arith, ap (λ (q : TaskReply). q .number) e)),
+  ap (λ (q : TaskReply). q .task) e,
+)
 
 -- Bytes that are no well-formed task's file get a number from 1 to 8, or 16, and a task of zeros.
-pub bad-file : (s : List ℕ) (r : TaskReply) → ReadsFile s r → ((t : Task) → WellFormed t → s ≡ fileOf t → ⊥) → BadFile r
+pub bad-file : (s : List ℕ) (r : TaskReply) → ReadsFile s r → ((t : Task) → WellFormed t → s ≡ fileOf t → ⊥) → BadFile s r
 bad-file s r reads none =
-    bad-from reads (λ ok.
+    let bad = bad-from reads (λ ok.
     let p = accepted-exactly s (r .task) .0 (subst (ReadsFile s) (accepted-read reads ok) reads) in
-    none (r .task) (p .0) (p .1))
+    none (r .task) (p .0) (p .1)) in
+    record { numbered = (bad .0, bad .1); zeros = bad .2; marked = read-marks s r reads (bad .0) }
 
 pub read-number : (s : List ℕ) (r : TaskReply) → ReadsFile s r → Listed (r .number)
 read-number s r reads =
     by-order (r .number) 1 (λ h. omega arith)
-    (λ h. ⊎-elim (λ low. omega arith) (λ same. omega arith) (bad-from reads (λ e. omega arith) .numbered .1))
+    (λ h. ⊎-elim (λ low. omega arith) (λ same. omega arith) (bad-from reads (λ e. omega arith) .1))
 
 record-fault : (s : List ℕ) (at : ℕ) → Listed (recordFault s at .number)
 unfolding recordFault

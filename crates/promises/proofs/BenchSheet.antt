@@ -45,12 +45,12 @@ use Rattle.taskformat.proofs.Function.{reads-total}
 use Rattle.taskformat.proofs.Unique.{reads-unique}
 use Rattle.taskformat.specs.Computed.{readFrom, readFile}
 use Rattle.taskformat.specs.Format.{isKind, fileOrder, firstPlace, positionOf, isCellKind, isFactKind, bodyLength}
-use Rattle.taskformat.specs.Reading.{ReadsFile, refusedRead, acceptedRead, noTask, bodyAt, misplaced, sizesWrong, outside, disordered, placeOf, faultsAt, tableAfter, runsAfter, seenAfter}
+use Rattle.taskformat.specs.Reading.{ReadsFile, refusedRead, acceptedRead, noTask, bodyAt, misplaced, sizesWrong, outside, disordered, wrongByte, placeOf, faultsAt, tableAfter, runsAfter, seenAfter}
 use Rattle.table.specs.declared.TaskReply.{TaskReply}
 use Rattle.promises.proofs.CertificateLaws.{certified-well, certified-only}
 use Rattle.promises.specs.Determined.{Only}
 use Rattle.promises.specs.Certificates.{isRightWith, mends, certifies, certified, ofFact, partsOf}
-use Rattle.promises.specs.Sheet.{reads, lists, checks, solves, refuses, works-later, edits, Stands, AllHold, all, _and_, deleteAbsent, untouched, listingText, refusedText, sheet, stepsOf, refusalFiles, twoRunsFile, twoRunsText, severalRuns, figures}
+use Rattle.promises.specs.Sheet.{reads, lists, checks, solves, refuses, works-later, edits, Stands, AllHold, all, _and_, deleteAbsent, untouched, listingText, refusedText, strayText, sheet, stepsOf, refusalFiles, twoRunsFile, twoRunsText, severalRuns, figures}
 
 -- ---- what is enough for a row of each kind
 
@@ -143,9 +143,10 @@ two-runs-text : (c : ℕ → Checked) → c 0 ≡ openNeeds 1 2 0 → c 1 ≡ op
 unfolding given textOf readText line each digits gather sumBelow
 two-runs-text c e g = rw (e, g)
 
-refused-text : (c : ℕ → Checked) (o : Outcome) → bytesOf refusedText ≡ textOf (refusedRead 8 36) c o
+refused-texts : (c : ℕ → Checked) (o : Outcome)
+    → (bytesOf refusedText ≡ textOf (refusedRead 8 36) c o) × (bytesOf strayText ≡ textOf (refusedRead 5 34) c o)
 unfolding textOf readText line each digits
-refused-text c o = refl
+refused-texts c o = (refl, refl)
 
 -- 7: "32 works too, and comes later"
 later-row : Stands (works-later deletesTheGoal (32 ∷ []) (0 ∷ []))
@@ -153,7 +154,7 @@ later-row = (worked .row-7 .1, worked .row-7 .2)
 
 -- All lists under one, so that what is computed is named once.
 computed : AllHold sheet × AllHold refusalFiles × AllHold severalRuns × AllHold figures
-unfolding readFile readFrom faultsAt placeOf firstOf isKind fileOrder firstPlace positionOf isCellKind isFactKind bodyLength bodyAt misplaced sizesWrong outside disordered tableAfter runsAfter seenAfter checked openReport totalOpen firstOpen lowestOpen openAt isOpen sumBelow countBelow firstWhere pairSteps stepsOf certified certifies mends isRightWith isRight isAllRight isFormed isShaped everyPlace ofFact formed sizesFormed runFormed runFits actionFormed maskFormed stepFormed stepFits everyBelow cellsOf courseOf stateAt permitted permits chosen isIn has within joined removed only setCell gather someBelow isHopeless isOver foundList cellInside names joinRows readAgainst
+unfolding readFile readFrom faultsAt wrongByte placeOf firstOf isKind fileOrder firstPlace positionOf isCellKind isFactKind bodyLength bodyAt misplaced sizesWrong outside disordered tableAfter runsAfter seenAfter checked openReport totalOpen firstOpen lowestOpen openAt isOpen sumBelow countBelow firstWhere pairSteps stepsOf certified certifies mends isRightWith isRight isAllRight isFormed isShaped everyPlace ofFact formed sizesFormed runFormed runFits actionFormed maskFormed stepFormed stepFits everyBelow cellsOf courseOf stateAt permitted permits chosen isIn has within joined removed only setCell gather someBelow isHopeless isOver foundList cellInside names joinRows readAgainst
 computed = (
   read-row _ _ _ refl refl and
       read-row _ _ _ refl refl and
@@ -177,13 +178,20 @@ computed = (
       read-row _ _ _ refl refl and
       read-row _ _ _ refl refl and
       list-row _ refusedText (refusedRead 8 36) (refused 12 answerRoom) refl
-      (solves-malformed noTask answerRoom _ refl refl) (refused-text _ _) and
+      (solves-malformed noTask answerRoom _ refl refl) (refused-texts _ _ .0) and
       read-row _ _ _ refl refl and
+      list-row _ strayText (refusedRead 5 34) (refused 12 answerRoom) refl
+      (solves-malformed noTask answerRoom _ refl refl) (refused-texts _ _ .1) and
       checked-row strayTask 0 _ refl and
       check-row (pairs 6) 0 _ refl refl refl and
       check-row (pairs 7) 0 _ refl refl refl and
       all,
   read-row _ _ _ refl refl and
+      read-row _ _ _ refl refl and
+      read-row _ _ _ refl refl and
+      read-row _ _ _ refl refl and
+      read-row _ _ _ refl refl and
+      read-row _ _ _ refl refl and
       read-row _ _ _ refl refl and
       read-row _ _ _ refl refl and
       read-row _ _ _ refl refl and

@@ -41,7 +41,7 @@ use Rattle.table.specs.Tasks.{cellsOf, formed, WellFormed}
 use Rattle.table.specs.declared.Reply.{Reply}
 use Rattle.table.specs.declared.Task.{Task}
 use Rattle.taskformat.specs.Format.{fileOf}
-use Rattle.taskformat.specs.Reading.{noTask}
+use Rattle.taskformat.specs.Reading.{noTask, Marks}
 use Rattle.taskwriter.proofs.WritingLaws.{written-unformed}
 use Rattle.promises.proofs.Demands.{Refused}
 use Rattle.promises.proofs.BadInputLaws.{Listed, FileNumber, bad-file, read-number, record-number, check-malformed, check-outside, check-number, apply-number, open-number, edit-number, bad-list, open-refused, edit-refused, write-fair, solve-fair, list-fair, listing-fair}
@@ -130,9 +130,9 @@ pub record BadTable (ws table : List ℕ) : Type 0 where
 pub record BoundaryDemand : Type 0 where
   pub defined : AllDefinedThere
   pub answer-rooms : AnswerRooms
-  -- "Bad files": 1 to 8, or 02's 16, and a task of zeros
+  -- "Bad files": 1 to 8, or 02's 16, at a byte of the file or, for 1, at its end, and a task of zeros
   pub bad-files : (file : List ℕ) → ((t : Task) → WellFormed t → file ≡ fileOf t → ⊥) → (answer : List ℕ) → 638 ≤ length answer → (o : Alone)
-      → ZpReadGives file answer o → (0 < o .0) × FileNumber (o .0) × ((place : ℕ) × (o .1 ≡ taskAnswer (o .0) place noTask ++ drop 638 answer))
+      → ZpReadGives file answer o → (0 < o .0) × FileNumber (o .0) × ((place : ℕ) × Marks file (o .0) place × (o .1 ≡ taskAnswer (o .0) place noTask ++ drop 638 answer))
   -- "tables": of actions (12; another number of words than 636 is none), and of a session (13)
   pub bad-words : (ws : List ℕ) → formed (taskIn ws) ≡ false → BadWords ws
   pub other-words : (ws : List ℕ) → (length ws ≡ 636 → ⊥) → BadWords ws
@@ -280,7 +280,7 @@ table-bad ws table w =
     }
 
 file-bad : (file : List ℕ) → ((t : Task) → WellFormed t → file ≡ fileOf t → ⊥) → (answer : List ℕ) → 638 ≤ length answer → (o : Alone)
-    → ZpReadGives file answer o → (0 < o .0) × FileNumber (o .0) × ((place : ℕ) × (o .1 ≡ taskAnswer (o .0) place noTask ++ drop 638 answer))
+    → ZpReadGives file answer o → (0 < o .0) × FileNumber (o .0) × ((place : ℕ) × Marks file (o .0) place × (o .1 ≡ taskAnswer (o .0) place noTask ++ drop 638 answer))
 unfolding ReadsTask
 file-bad file none answer n o g =
     let x = zp-read-gives file answer o g .given n in
@@ -291,6 +291,7 @@ file-bad file none answer n o g =
       subst FileNumber (sym number) (bad .numbered .1),
       (
         y .place,
+        subst (λ (m : ℕ). Marks file m (y .place)) (sym number) (bad .marked),
         x .4 ∙ ap (λ w. w ++ drop 638 answer) (x .2 .2) ∙
             (λ i. taskAnswer (sym number i) (y .place) (bad .zeros i) ++ drop 638 answer),
       ),

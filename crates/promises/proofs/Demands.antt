@@ -117,8 +117,9 @@ pub record BadSession (t : Task) (s : List ℕ) : Type 0 where
 -- call changes no byte or number lent to it."
 pub record Demand1 : Type 0 where
   pub defined : AllDefined
-  -- "Bad files .. get document 01's numbered refusal": 1 to 8, or 02's 16, and a task of zeros. Which, and where: `refusal-files` (BenchSheet).
-  pub bad-files : (s : List ℕ) (r : TaskReply) → ReadGives s r → ((t : Task) → WellFormed t → s ≡ fileOf t → ⊥) → BadFile r
+  -- "Bad files .. get document 01's numbered refusal": 1 to 8, or 02's 16, and a task of zeros; which byte is wrong is a byte of the file, but for
+  -- 1 at its end. Which, and where: `refusal-files` (BenchSheet).
+  pub bad-files : (s : List ℕ) (r : TaskReply) → ReadGives s r → ((t : Task) → WellFormed t → s ≡ fileOf t → ⊥) → BadFile s r
   -- "tables": of actions (12), and of a session (13)
   pub bad-tasks : (t : Task) → formed t ≡ false → BadTask t
   pub bad-sessions : (t : Task) → WellFormed t → (s : List ℕ) → BadSession t s

@@ -1,6 +1,6 @@
 -- The bench sheet of document 01 as one table: the starred rows, 1 to 11, in the words of the calls' contracts and with the paper's own
--- numbers, and beside them the run check of their tasks and of row 12's; 01's table of refusals, with 02's 16, by small files; and two runs (02,
--- request 1). The tasks are in table/specs/Bench, the files in taskformat/specs/BenchFiles.
+-- numbers, and beside them the run check of their tasks and of row 12's; 01's table of refusals, with 02's 16 and 02's places, by small files; and
+-- two runs (02, request 1). The tasks are in table/specs/Bench, the files in taskformat/specs/BenchFiles.
 use mathlib.Core.Bool.{false}
 use mathlib.Core.List.{List, [], _∷_}
 use mathlib.Core.Path.{_≡_}
@@ -81,6 +81,10 @@ listingText = "task 4 3 3 3\nopen 2 3 1\nset 2\ndrop-delete 1 1\nadd-effect 0 2\
 abbrev pub refusedText : String
 refusedText = "refused 8 36\n"
 
+-- And for one whose last step is of no action, with the byte that says so.
+abbrev pub strayText : String
+strayText = "refused 5 34\n"
+
 -- ---- the sheet
 
 abbrev pub sheet : List BenchRow
@@ -117,8 +121,9 @@ sheet =
     reads withoutEnd 35 (refusedRead 1 35) ∷
     reads byteAppended 37 (refusedRead 8 36) ∷
     lists byteAppended refusedText ∷
-    -- 11. Case 2 with its last step 03: 5 at 33. As a task it is not well formed.
-    reads strayStep 36 (refusedRead 5 33) ∷
+    -- 11. Case 2 with its last step 03: 5 at 34 (02, request 2). As a task it is not well formed.
+    reads strayStep 36 (refusedRead 5 34) ∷
+    lists strayStep strayText ∷
     checks strayTask 0 (refusedCheck 12) ∷
     -- 12, which has no star, for the run check alone: six pairs, and seven.
     checks (pairs 6) 0 (openNeeds 6 2 0) ∷
@@ -148,13 +153,20 @@ refusalFiles =
     reads (1 ∷ 65 ∷ 3 ∷ 3 ∷ []) 4 (refusedRead 4 0) ∷
     reads (1 ∷ 4 ∷ 33 ∷ 3 ∷ []) 4 (refusedRead 4 0) ∷
     reads (1 ∷ 4 ∷ 3 ∷ 7 ∷ []) 4 (refusedRead 4 0) ∷
-    -- 5: "fact or action outside"
-    reads (sized (2 ∷ 4 ∷ [])) 6 (refusedRead 5 4) ∷
-    reads (sized (4 ∷ 3 ∷ 0 ∷ [])) 7 (refusedRead 5 4) ∷
-    -- 6: "kind goes down, or body doesn't ascend"
+    -- 5: "fact or action outside", at "the first number that is outside" (02, request 2): a start's fact; a cell's action, its fact, or both; a
+    -- step's action; and before 6, where the kind goes down as well
+    reads (sized (2 ∷ 4 ∷ [])) 6 (refusedRead 5 5) ∷
+    reads (sized (4 ∷ 3 ∷ 0 ∷ [])) 7 (refusedRead 5 5) ∷
+    reads (sized (4 ∷ 0 ∷ 4 ∷ [])) 7 (refusedRead 5 6) ∷
+    reads (sized (4 ∷ 3 ∷ 4 ∷ [])) 7 (refusedRead 5 5) ∷
+    reads (sized (7 ∷ 3 ∷ [])) 6 (refusedRead 5 5) ∷
+    reads (sized (5 ∷ 0 ∷ 0 ∷ 4 ∷ 0 ∷ 4 ∷ [])) 10 (refusedRead 5 9) ∷
+    -- 6: "kind goes down, or body doesn't ascend", at "the kind byte if the kind is out of order and the first body byte otherwise" (02, request 2),
+    -- also where the first numbers are equal
     reads (sized (3 ∷ 0 ∷ 2 ∷ 0 ∷ [])) 8 (refusedRead 6 6) ∷
-    reads (sized (2 ∷ 1 ∷ 2 ∷ 1 ∷ [])) 8 (refusedRead 6 6) ∷
-    -- 02, request 1: "Kinds 4 to 6 after a kind 9 get 6"; the order of the others begins anew, and then holds
+    reads (sized (2 ∷ 1 ∷ 2 ∷ 1 ∷ [])) 8 (refusedRead 6 7) ∷
+    reads (sized (4 ∷ 1 ∷ 1 ∷ 4 ∷ 1 ∷ 0 ∷ [])) 10 (refusedRead 6 8) ∷
+    -- 02, request 1: "Kinds 4 to 6 after a kind 9 get 6", of the kind; the order of the others begins anew, and then holds
     reads (sized (9 ∷ 4 ∷ 0 ∷ 0 ∷ [])) 8 (refusedRead 6 5) ∷
     reads (sized (9 ∷ 3 ∷ 0 ∷ 2 ∷ 0 ∷ [])) 9 (refusedRead 6 7) ∷
     -- 16: "at its kind byte, for a ninth run"

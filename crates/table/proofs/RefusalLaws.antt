@@ -6,7 +6,7 @@ use Prim.Native.Nat.{ℕ, _<_}
 use native.Mathlib.Omega.{arith}
 use lib.ListN.{drop}
 use Rattle.table.proofs.FlagLaws.{cond-by}
-use Rattle.table.specs.Refusals.{Check, Refusal, accepted, firstOf}
+use Rattle.table.specs.Refusals.{Check, Refusal, accepted, none, firstOf}
 
 -- ---- none fires
 
@@ -52,6 +52,16 @@ unfolding firstOf
 first-placed p [] none a = sym none
 first-placed p (c ∷ cs) none a =
     cond-by {A = Refusal} (λ r. r .place ≡ p (r .number)) (c .fires) (λ _. a .0) (λ _. first-placed p cs none (a .1))
+
+-- Each check is such as P says, where it fires and none before it does.
+abbrev pub EachBy : (Refusal → Type 0) → List Check → Type 0
+EachBy P [] = Unit {0}
+EachBy P (c ∷ cs) = (c .fires ≡ true → P (record { number = c .number; place = c .place })) × (c .fires ≡ false → EachBy P cs)
+
+pub firstOf-by : (P : Refusal → Type 0) (cs : List Check) → P none → EachBy P cs → P (firstOf cs)
+unfolding firstOf
+firstOf-by P [] nothing each = nothing
+firstOf-by P (c ∷ cs) nothing each = cond-by {A = Refusal} P (c .fires) (each .0) (λ e. firstOf-by P cs nothing (each .1 e))
 
 -- Every check's number is such as P says.
 abbrev pub NumbersIn : (ℕ → Type 0) → List Check → Type 0

@@ -1,29 +1,44 @@
 -- What the loop of the reader keeps. Assumes nothing.
 use mathlib.Core.Bool.{Bool, true, false, cond, _&&_}
 use mathlib.Core.List.{List, [], _∷_}
-use mathlib.Core.Path.{_≡_, refl, sym, _∙_}
+use mathlib.Core.Logic.{⊎-elim}
+use mathlib.Core.Path.{_≡_, refl, sym, ap, _∙_}
 use Prim.Native.Nat.{ℕ, _+_, _-_, _*_, _<_}
 use native.Mathlib.Omega.{arith}
 use borrow.Author.Tests.{eq-eqb, ne-eqb, leb-false}
 use lib.Dec.{eqb, leb}
-use lib.ListN.{getD, set, replicate, getD-replicate}
+use lib.ListN.{length, getD, set, replicate, getD-replicate}
 use Rattle.table.proofs.RefusalLaws.{first-placed}
 use Rattle.table.specs.Refusals.{refuseAt, firstOf, accepted, sizeOutside, numberOutside, notAscending, tooManyRuns, tooManySteps}
 use Rattle.table.specs.Sizes.{maxRuns, maxSteps}
 use Rattle.table.specs.Setting.{setIn}
 use Rattle.table.specs.Tasks.{countOf, Shaped}
 use Rattle.taskformat.specs.Format.{sizesKind, startKind, goalKind, needKind, addKind, deleteKind, stepKind, runKind}
-use Rattle.taskformat.specs.Reading.{Seen, lastRun, kindAt, byteAt, bodyAt, sizesWrong, outside, misplaced, disordered, placeOf, faultsAt, faultAt, tableAfter, runsAfter, seenAfter}
+use Rattle.taskformat.specs.Reading.{Seen, lastRun, kindAt, byteAt, bodyAt, sizesWrong, outside, misplaced, disordered, wrongByte, placeOf, faultsAt, faultAt, tableAfter, runsAfter, seenAfter}
 use Rattle.taskformat.proofs.Clear.{Clear}
+use Rattle.taskformat.proofs.Places.{fault-marks}
 use Rattle.taskformat.proofs.OneMore.{taskAfter, shaped-after}
 use Rattle.taskfile.specs.Records.{seenWith, seenOf, knownOf, manyAfter, bodyFaults}
 use Rattle.taskfile.specs.declared.seen.Known.{Known}
 
--- A fault is at the place that its number has.
-pub fault-place : (s : List ℕ) (at : ℕ) (seen : Seen) → faultAt s at seen .place ≡ placeOf (faultAt s at seen .number) s at seen
-unfolding faultsAt placeOf
-fault-place s at seen =
-    first-placed (λ n. placeOf n s at seen) (faultsAt s at seen) refl (refl, (refl, (refl, (refl, (refl, (refl, (refl, (refl, (refl, tt)))))))))
+-- A fault is at the place that its number has: without one 0, and else at the byte that is wrong.
+module _ (s : List ℕ) (at : ℕ) (seen : Seen) where
+  fault-place : faultAt s at seen .place ≡ placeOf (faultAt s at seen .number) s at seen
+  unfolding faultsAt placeOf
+  fault-place =
+      first-placed (λ n. placeOf n s at seen) (faultsAt s at seen) refl (refl, (refl, (refl, (refl, (refl, (refl, (refl, (refl, (refl, tt)))))))))
+
+  pub no-place : {n : ℕ} → n ≡ faultAt s at seen .number → n ≡ accepted → 0 ≡ faultAt s at seen .place
+  unfolding placeOf
+  no-place is none = sym (fault-place ∙ ap (λ (m : ℕ). placeOf m s at seen) (sym is ∙ none))
+
+  pub marked-place : {n b : ℕ} → n ≡ faultAt s at seen .number → (n ≡ accepted → ⊥) → b ≡ wrongByte n s at seen → at + b ≡ faultAt s at seen .place
+  unfolding placeOf
+  marked-place {n} is some wrong = sym (fault-place ∙ ap (λ (m : ℕ). placeOf m s at seen) (sym is) ∙ rw (ne-eqb n accepted some, wrong))
+
+  -- It is below any bound of the record's start and of the file's length.
+  pub place-below : (m : ℕ) → at < m → length s < m → (faultAt s at seen .number ≡ accepted → ⊥) → faultAt s at seen .place < m
+  place-below m start end some = ⊎-elim (λ cut. omega (arith, cut .1)) (λ there. omega arith) (fault-marks s at seen (omega arith))
 
 -- The count of the last run is the one that is known.
 last-count : (k : Known) → getD (replicate (k .runs + 1) (k .count)) (k .runs - 1) 0 ≡ k .count
@@ -32,7 +47,7 @@ last-count k = getD-replicate (k .runs + 1) (k .runs - 1) (k .count) 0 (omega ar
 -- A fault looks at no array, but for that count.
 pub numbers-decide : (s : List ℕ) (at : ℕ) (k : Known) (n a d b g c t : List ℕ) → getD c (k .runs - 1) 0 ≡ k .count
     → faultAt s at (seenWith k n a d b g c t) ≡ faultAt s at (seenOf k)
-unfolding faultsAt placeOf misplaced outside disordered
+unfolding faultsAt wrongByte placeOf misplaced outside disordered
 numbers-decide s at k n a d b g c t counted = rw (counted, last-count k)
 
 -- What is seen after a record: the numbers, and of the arrays those that the record's kind names.

@@ -1,5 +1,5 @@
 // The first fault of the record at a place (document 01, "Refusal numbers": "within it 1 (no kind byte), 2, 3, 1 (short
-// body), 4, 5, 6, 7"; 02, request 1: 16 "after 6 and before 7").
+// body), 4, 5, 6, 7"; 02, request 1: 16 "after 6 and before 7"), and which of its bytes is wrong (02, request 2).
 use crate::kinds;
 use crate::parts;
 use crate::seen::Known;
@@ -12,7 +12,7 @@ use table::STEPS;
 use table::refusals;
 ghost use mathlib.Core.Path.{_≡_};
 ghost use Rattle.table.specs.Refusals.{firstOf};
-ghost use Rattle.taskformat.specs.Reading.{misplaced, sizesWrong, outside, disordered, placeOf, faultAt};
+ghost use Rattle.taskformat.specs.Reading.{misplaced, sizesWrong, firstOutside, outside, kindDisordered, disordered, wrongByte, faultAt};
 ghost use Rattle.taskfile.specs.Records.{seenOf, bodyFaults};
 
 // The first fault of a record: its number and its place; 0 and 0 where it is good.
@@ -39,22 +39,35 @@ fn sizes_wrong(f: usize, a: usize, l: usize) -> bool
     !((0 < f) & (f <= FACTS) & ((0 < a) & (a <= ACTIONS)) & (l <= LIMIT))
 }
 
-// 5: a fact or an action is outside.
+// 5: the first number of a body is outside: the fact of a start or goal, the action of a cell or step.
+fn is_first_outside(known: Known, kind: usize, x: usize) -> bool
+    ensures { λ r. ⌜ r ≡ firstOutside (seenOf known .task .table) kind x ⌝ }
+{
+    (kinds::is_fact_kind(kind) & (known.facts <= x))
+        | ((kinds::is_cell_kind(kind) | (kind == kinds::STEP)) & (known.actions <= x))
+}
+
+// 5: that, or the fact of a cell.
 fn is_outside(known: Known, kind: usize, x: usize, y: usize) -> bool
     ensures { λ r. ⌜ r ≡ outside (seenOf known .task .table) kind x y ⌝ }
 {
-    (kinds::is_fact_kind(kind) & (known.facts <= x))
-        | (kinds::is_cell_kind(kind) & ((known.actions <= x) | (known.facts <= y)))
-        | ((kind == kinds::STEP) & (known.actions <= x))
+    is_first_outside(known, kind, x) | (kinds::is_cell_kind(kind) & (known.facts <= y))
 }
 
 // 6: the kind goes down, by its position in a file; a further run never does, and begins the order anew. Or a cell of the table
-// comes after it; or the body does not ascend.
-fn is_disordered(known: Known, kind: usize, body: usize) -> bool
-    ensures { λ r. ⌜ r ≡ disordered (seenOf known) kind body ⌝ }
+// comes after it.
+fn is_kind_disordered(known: Known, kind: usize) -> bool
+    ensures { λ r. ⌜ r ≡ kindDisordered (seenOf known) kind ⌝ }
 {
     ((kind != kinds::RUN) & (kinds::position(kind) < kinds::position(known.kind)))
         | (kinds::is_cell_kind(kind) & (0 < last_run(known.runs)))
+}
+
+// 6: that, or the body does not ascend.
+fn is_disordered(known: Known, kind: usize, body: usize) -> bool
+    ensures { λ r. ⌜ r ≡ disordered (seenOf known) kind body ⌝ }
+{
+    is_kind_disordered(known, kind)
         | ((kind == known.kind)
             & (kinds::is_fact_kind(kind) | kinds::is_cell_kind(kind))
             & (body <= known.body))
@@ -112,17 +125,38 @@ fn fault_number(s: &[u8], at: usize, known: Known) -> usize
     body_fault(s, at, known)
 }
 
-// Where a refusal of the record at a place is told: at the record's start.
-fn place_of(number: usize, s: &[u8], at: usize, known: Known) -> usize
-    ensures { λ r. ⌜ r ≡ placeOf number (now (s .entry)) at (seenOf known) ⌝ }
+// The bytes of a record that can be wrong, counted from its start.
+const KIND_BYTE: usize = 0;
+
+const FIRST_BYTE: usize = 1;
+
+const SECOND_BYTE: usize = 2;
+
+// Which byte of the record at a place is wrong, by the number of its fault: of 5 the first number that is outside, of 6 the kind
+// byte if the kind is out of order and the first byte of the body otherwise, of any other the kind byte.
+fn wrong_byte(number: usize, s: &[u8], at: usize, known: Known) -> usize
+    ensures { λ r. ⌜ r ≡ wrongByte number (now (s .entry)) at (seenOf known) ⌝ }
 {
-    if number == refusals::ACCEPTED { 0 } else { at }
+    let kind = parts::kind_at(s, at);
+    if number == refusals::NUMBER_OUTSIDE {
+        let x = parts::number_at(s, at, 0);
+        let first = is_first_outside(known, kind, x);
+        return if first { FIRST_BYTE } else { SECOND_BYTE };
+    }
+    if number == refusals::NOT_ASCENDING {
+        let down = is_kind_disordered(known, kind);
+        return if down { KIND_BYTE } else { FIRST_BYTE };
+    }
+    KIND_BYTE
 }
 
 pub(crate) fn fault_at(s: &[u8], at: usize, known: Known) -> Fault
     ensures { λ r. ⌜ (r .number ≡ faultAt (now (s .entry)) at (seenOf known) .number) × (r .place ≡ faultAt (now (s .entry)) at (seenOf known) .place) ⌝ }
 {
     let number = fault_number(s, at, known);
-    let place = place_of(number, s, at, known);
+    if number == refusals::ACCEPTED {
+        return Fault { number, place: 0 };
+    }
+    let place = at + wrong_byte(number, s, at, known);
     Fault { number, place }
 }

@@ -12,7 +12,7 @@ use borrow.Author.Tests.{lt-leb, le-ltb}
 use Rattle.table.specs.Refusals.{firstOf}
 use Rattle.table.specs.declared.TaskReply.{TaskReply}
 use Rattle.taskformat.specs.Format.{sizesKind, endKind, runKind, isCellKind, bodyLength}
-use Rattle.taskformat.specs.Reading.{Seen, kindAt, byteAt, bodyAt, nextAt, seenAfter, placeOf, faultsAt, faultAt, Reads, ReadsFile, faulty, good, ended, trailing}
+use Rattle.taskformat.specs.Reading.{Seen, kindAt, byteAt, bodyAt, nextAt, seenAfter, wrongByte, placeOf, faultsAt, faultAt, Reads, ReadsFile, faulty, good, ended, trailing}
 use Rattle.taskformat.specs.Lengths.{longestFile, programRoom}
 use Rattle.taskformat.proofs.Unique.{reads-unique}
 use Rattle.taskformat.proofs.Function.{reads-total}
@@ -54,7 +54,7 @@ same-body s q at same = rw (same .kind, same .first, same .second)
 same-faults : (s q : List ℕ) (at : ℕ) (seen : Seen) → SameAt s q at → leb (length s) at ≡ leb (length q) at
     → ltb (length s) (at + 1 + bodyLength (kindAt s at)) ≡ ltb (length q) (at + 1 + bodyLength (kindAt q at))
     → faultsAt s at seen ≡ faultsAt q at seen
-unfolding faultsAt placeOf
+unfolding faultsAt wrongByte placeOf
 same-faults s q at seen same there whole =
     rw (whole, there, same-body s q at same, same .kind, same .first, same .second, same .third)
 

@@ -10,15 +10,16 @@ use lib.ListN.{length}
 use borrow.Author.Tests.{eq-eqb, eqb-true, eqb-false, ltb-true, ltb-false, le-leb}
 use Rattle.table.specs.Refusals.{firstOf}
 use Rattle.taskformat.specs.Format.{endKind}
-use Rattle.taskformat.specs.Reading.{Seen, Reads, faulty, good, ended, trailing, kindAt, nextAt, seenAfter, placeOf, faultsAt, faultAt, nothingSeen, ReadsFile}
+use Rattle.taskformat.specs.Reading.{Seen, Reads, faulty, good, ended, trailing, kindAt, nextAt, seenAfter, wrongByte, placeOf, faultsAt, faultAt, nothingSeen, ReadsFile}
 use Rattle.taskformat.specs.Computed.{readFrom, readFile}
 use Rattle.taskformat.proofs.Clear.{clear}
 
 -- At or past the end the first fault is that there is no end record.
 reads-past : (s : List ℕ) (at : ℕ) (seen : Seen) → length s ≤ at → Reads s (readFrom zero s at seen) at seen
-unfolding readFrom faultsAt placeOf firstOf
+unfolding readFrom faultsAt wrongByte placeOf firstOf
 reads-past s at seen l =
-    faulty {at = at} {seen = seen} (rw (le-leb (length s) at l) (omega arith)) (rw (le-leb (length s) at l))
+    let start : at + 0 ≡ at = omega arith in
+    faulty {at = at} {seen = seen} (rw (le-leb (length s) at l) (omega arith)) (rw (le-leb (length s) at l, start))
 
 -- One record, where the reading from the next place on is known.
 module _ (n : ℕ) (s : List ℕ) (at : ℕ) (seen : Seen) where

@@ -7,12 +7,12 @@ use lib.Dec.{eqb, leb}
 use borrow.Author.Tests.{eqb-false, eq-eqb, ne-eqb, leb-false}
 use Rattle.table.specs.Sizes.{maxRuns, maxSteps}
 use Rattle.table.specs.Tasks.{countOf}
-use Rattle.table.proofs.FlagLaws.{or-neither}
+use Rattle.table.proofs.FlagLaws.{or-left, or-right, or-neither}
 use Rattle.table.specs.declared.Table.{Table}
 use Rattle.taskformat.specs.Format.{noKind, sizesKind, runKind, stepKind, endKind, isKind, isCellKind, isFactKind, positionOf}
-use Rattle.taskformat.specs.Reading.{Seen, lastRun, misplaced, outside}
+use Rattle.taskformat.specs.Reading.{Seen, lastRun, misplaced, firstOutside, outside}
 use Rattle.taskformat.proofs.PositionLaws.{order, apart}
-use Rattle.taskformat.proofs.Families.{CellKind, Family, ofNone, ofSizes, ofRun, ofFact, ofCell, ofStep, family}
+use Rattle.taskformat.proofs.Families.{Family, ofNone, ofSizes, ofRun, ofFact, ofCell, ofStep, family}
 use Rattle.taskformat.proofs.Fitting.{Fits, opensRun, factFits, cellFits, stepFits}
 
 -- The first record has been seen.
@@ -23,22 +23,22 @@ not-again : (seen : Seen) (k : ℕ) → positionOf sizesKind ≤ positionOf (see
 unfolding misplaced
 not-again seen k low e = eqb-false k sizesKind (rw (some-kind seen low) at e)
 
-outside-parts : (t : Table) (k x y : ℕ) → outside t k x y ≡ false
-    → ((isFactKind k && leb (t .facts) x) ≡ false) × ((isCellKind k && (leb (t .actions) x || leb (t .facts) y)) ≡ false) ×
-    ((eqb k stepKind && leb (t .actions) x) ≡ false)
-unfolding outside
-outside-parts t k x y e =
-    let last =
-    or-neither ((isFactKind k && leb (t .facts) x) || (isCellKind k && (leb (t .actions) x || leb (t .facts) y)))
-    (eqb k stepKind && leb (t .actions) x) e in
-    let firsts = or-neither (isFactKind k && leb (t .facts) x) (isCellKind k && (leb (t .actions) x || leb (t .facts) y)) (last .0) in
-    (firsts .0, firsts .1, last .1)
+-- What it is for a record's numbers to be inside.
+record Inside (t : Table) (k x y : ℕ) : Type 0 where
+  fact : isFactKind k ≡ true → x < t .facts
+  action : (isCellKind k || eqb k stepKind) ≡ true → x < t .actions
+  second : isCellKind k ≡ true → y < t .facts
 
-cell-parts : (t : Table) (k x y : ℕ) → CellKind k → (isCellKind k && (leb (t .actions) x || leb (t .facts) y)) ≡ false
-    → (x < t .actions) × (y < t .facts)
-cell-parts t k x y kind e =
-    let parts = or-neither (leb (t .actions) x) (leb (t .facts) y) (rw (kind .cell) at e) in
-    (leb-false (t .actions) x (parts .0), leb-false (t .facts) y (parts .1))
+inside-parts : (t : Table) (k x y : ℕ) → outside t k x y ≡ false → Inside t k x y
+unfolding outside
+inside-parts t k x y e =
+    let parts = or-neither (firstOutside t k x) (isCellKind k && leb (t .facts) y) e in
+    let firsts = or-neither (isFactKind k && leb (t .facts) x) ((isCellKind k || eqb k stepKind) && leb (t .actions) x) (parts .0) in
+    record {
+      fact = λ is. leb-false (t .facts) x (rw is at (firsts .0));
+      action = λ is. leb-false (t .actions) x (rw is at (firsts .1));
+      second = λ is. leb-false (t .facts) y (rw is at (parts .1));
+    }
 
 pub fits : (seen : Seen) (k x y : ℕ) → positionOf sizesKind ≤ positionOf (seen .kind) → isKind k ≡ true → misplaced seen k ≡ false
     → outside (seen .task .table) k x y ≡ false → (isCellKind k ≡ true → lastRun (seen .task .runs) ≡ 0)
@@ -47,17 +47,16 @@ pub fits : (seen : Seen) (k x y : ℕ) → positionOf sizesKind ≤ positionOf (
     → (k ≡ endKind → ⊥) → Fits (seen .task) k x y
 fits seen k x y low known placed inside first runs room more = by (family k)
   where
-    t : Table
-    t = seen .task .table
+    numbers : Inside (seen .task .table) k x y
+    numbers = inside-parts (seen .task .table) k x y inside
 
     by : Family k → Fits (seen .task) k x y
     by (ofNone out nothing) = absurd (more (out known))
     by (ofSizes is) = absurd (not-again seen k low placed is)
     by (ofRun is) = opensRun is (leb-false maxRuns (seen .task .runs .many) (rw (eq-eqb k runKind is) at runs))
-    by (ofFact kind) = factFits kind (leb-false (t .facts) x (rw (kind .fact) at (outside-parts t k x y inside .0)))
-    by (ofCell kind) =
-        let parts = cell-parts t k x y kind (outside-parts t k x y inside .1) in cellFits kind (parts .0) (parts .1) (first (kind .cell))
+    by (ofFact kind) = factFits kind (numbers .fact (kind .fact))
+    by (ofCell kind) = cellFits kind (numbers .action (or-left (isCellKind k) (eqb k stepKind) (kind .cell))) (numbers .second (kind .cell)) (first (kind .cell))
     by (ofStep is) =
         let step = eq-eqb k stepKind is in
-        stepFits is (leb-false (t .actions) x (rw step at (outside-parts t k x y inside .2)))
+        stepFits is (numbers .action (or-right (isCellKind k) (eqb k stepKind) step))
         (leb-false maxSteps (countOf (seen .task .runs) (lastRun (seen .task .runs))) (rw step at room))

@@ -24,7 +24,7 @@ fits-inside t k x y (opensRun is l) = rw is
 fits-inside t k x y (factFits kind l) =
     rw (kind .fact, kind .not-cell, kind .not-step, lt-leb (t .table .facts) x l)
 fits-inside t k x y (cellFits kind l m first) =
-    rw (kind .not-fact, kind .cell, kind .not-step, lt-leb (t .table .actions) x l, lt-leb (t .table .facts) y m)
+    rw (kind .not-fact, kind .cell, lt-leb (t .table .actions) x l, lt-leb (t .table .facts) y m)
 fits-inside t k x y (stepFits is l m) = rw (is, lt-leb (t .table .actions) x l)
 
 fits-known : (t : Task) (k x y : ℕ) → Fits t k x y → isKind k ≡ true

@@ -3,6 +3,7 @@ pub mod PositionLaws
 pub mod Unique
 pub mod Function
 pub mod Clear
+pub mod Places
 pub mod Ranks
 pub mod Sections
 pub mod Families

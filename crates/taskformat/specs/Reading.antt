@@ -1,8 +1,9 @@
 -- What reading a file gives, for every byte string: document 01, "The task file" and "Refusal numbers".
 -- "Order in a file: the first faulty record; within it 1 (no kind byte), 2, 3, 1 (short body), 4, 5, 6, 7; 8 after a good end."
--- 02, request 1: 16 "after 6 and before 7".
+-- 02, request 1: 16 "after 6 and before 7"; 02, request 2: which byte is wrong.
 use mathlib.Core.Bool.{Bool, true, cond, not, _||_, _&&_}
 use mathlib.Core.List.{List, [], _∷_}
+use mathlib.Core.Logic.{_⊎_}
 use mathlib.Core.Path.{_≡_}
 use Prim.Native.Nat.{ℕ, _+_, _-_, _*_, _<_}
 use lib.Dec.{eqb, leb, ltb}
@@ -60,24 +61,43 @@ misplaced seen kind = cond (eqb (seen .kind) noKind) (not (eqb kind sizesKind)) 
 unfoldable pub sizesWrong : ℕ → ℕ → ℕ → Bool
 sizesWrong f a l = not (ltb 0 f && leb f maxFacts && (ltb 0 a && leb a maxActions) && leb l maxLimit)
 
--- 5: "fact or action outside"
+-- 5: "fact or action outside". A body's first number is the fact of a start or goal, and the action of a cell or step;
+abbrev pub firstOutside : Table → ℕ → ℕ → Bool
+firstOutside t kind x = (isFactKind kind && leb (t .facts) x) || ((isCellKind kind || eqb kind stepKind) && leb (t .actions) x)
+
+-- only a cell has a second, its fact.
 unfoldable pub outside : Table → ℕ → ℕ → ℕ → Bool
-outside t kind x y =
-    (isFactKind kind && leb (t .facts) x) ||
-    (isCellKind kind && (leb (t .actions) x || leb (t .facts) y)) ||
-    (eqb kind stepKind && leb (t .actions) x)
+outside t kind x y = firstOutside t kind x || (isCellKind kind && leb (t .facts) y)
 
 -- 6: "kind goes down, or body doesn't ascend" (within each of kinds 2 to 6). Kind 9 begins the order anew, and "Kinds 4 to 6 after a kind 9
--- get 6" (02, request 1).
+-- get 6" (02, request 1): either way it is the kind that is out of order.
+abbrev pub kindDisordered : Seen → ℕ → Bool
+kindDisordered seen kind =
+    (not (eqb kind runKind) && ltb (positionOf kind) (positionOf (seen .kind))) || (isCellKind kind && ltb 0 (lastRun (seen .task .runs)))
+
 unfoldable pub disordered : Seen → ℕ → ℕ → Bool
 disordered seen kind body =
-    (not (eqb kind runKind) && ltb (positionOf kind) (positionOf (seen .kind))) ||
-    (isCellKind kind && ltb 0 (lastRun (seen .task .runs))) ||
-    (eqb kind (seen .kind) && (isFactKind kind || isCellKind kind) && leb body (seen .body))
+    kindDisordered seen kind || (eqb kind (seen .kind) && (isFactKind kind || isCellKind kind) && leb body (seen .body))
 
--- The place of each refusal of the record at a place: "the record's start"; 0 where there is none. (8 is of no record: `trailing`.)
+-- Which byte of the record at a place is wrong, by the number of its refusal, counted from the record's start, its kind byte: of 5 "the first number
+-- that is outside", of 6 "the kind byte if the kind is out of order and the first body byte otherwise" (02, request 2), of any other the start (01).
+unfoldable pub wrongByte : ℕ → List ℕ → ℕ → Seen → ℕ
+wrongByte number s at seen =
+    cond (eqb number numberOutside) (cond (firstOutside (seen .task .table) (kindAt s at) (byteAt s at 0)) firstByte secondByte)
+    (cond (eqb number notAscending) (cond (kindDisordered seen (kindAt s at)) kindByte firstByte) kindByte)
+  where
+    kindByte : ℕ
+    kindByte = 0
+
+    firstByte : ℕ
+    firstByte = 1
+
+    secondByte : ℕ
+    secondByte = 2
+
+-- The place of each refusal of the record at a place, 0 where there is none. (8 is of no record: `trailing`.)
 unfoldable pub placeOf : ℕ → List ℕ → ℕ → Seen → ℕ
-placeOf number s at seen = cond (eqb number accepted) 0 at
+placeOf number s at seen = cond (eqb number accepted) 0 (at + wrongByte number s at seen)
 
 -- The faults of the record at a place, in 01's order.
 unfoldable pub faultsAt : List ℕ → ℕ → Seen → List Check
@@ -162,3 +182,8 @@ pub data Reads (s : List ℕ) (r : TaskReply) : ℕ → Seen → Type 0 where
 -- Reading a whole file.
 abbrev pub ReadsFile : List ℕ → TaskReply → Type 0
 ReadsFile s r = Reads s r 0 nothingSeen
+
+-- "Our table editor marks the bad byte in red" (02, request 2). There is one to mark: the place is that of a byte of the file or, only for 1, right
+-- behind the last, where more has to come.
+abbrev pub Marks : List ℕ → ℕ → ℕ → Type 0
+Marks s number place = (place < length s) ⊎ ((number ≡ noEnd) × (place ≡ length s))
