@@ -1,6 +1,6 @@
-/* A small test of each function of the header: 01's 36-byte file through every call, the order of the parameters, several
- * runs, short rooms and short answers, empty slices and wrong lengths. It prints what fails and ends with status 1 if
- * anything did. */
+/* A small test of each function of the header: 01's 36-byte file through every call, which byte is wrong, the order of the
+ * parameters, several runs, short rooms and short answers, empty slices and wrong lengths. It prints what fails and ends
+ * with status 1 if anything did. */
 #include <stdio.h>
 #include <string.h>
 
@@ -97,6 +97,24 @@ static void read_and_records(void) {
     expect(zp_read(NULL, 0, fresh(), ZP_TASK_ANSWER_WORDS) == 1 && answer[1] == 0, "read: nothing is 1 at 0");
     expect(zp_record(file, sizeof file, 36, fresh(), ZP_RECORD_WORDS) == 1 && answer[1] == 36, "record: past the end");
     expect(zp_record(NULL, 0, (size_t)-1, fresh(), ZP_RECORD_WORDS) == 1, "record: any place");
+}
+
+/* The file with one byte changed is refused with this number at this place (02, request 2). */
+static int is_marked(size_t changed, uint8_t value, size_t number, size_t place) {
+    uint8_t wrong[sizeof file];
+    memcpy(wrong, file, sizeof file);
+    wrong[changed] = value;
+    return zp_read(wrong, sizeof wrong, fresh(), ZP_TASK_ANSWER_WORDS) == number && answer[1] == place && answer[2] == 0;
+}
+
+static void wrong_bytes(void) {
+    expect(is_marked(34, 3, 5, 34), "place: 5 of a step");
+    expect(is_marked(5, 4, 5, 5), "place: 5 of a start");
+    expect(is_marked(12, 3, 5, 12), "place: 5 of a need's action");
+    expect(is_marked(13, 4, 5, 13), "place: 5 of a need's fact");
+    expect(is_marked(17, 2, 6, 17), "place: 6 of a kind that goes down");
+    expect(is_marked(19, 1, 6, 18), "place: 6 of a body that is the last one's");
+    expect(is_marked(0, 2, 3, 0) && is_marked(1, 65, 4, 0), "place: 3 and 4 at the record's start");
 }
 
 /* One call of each function whose arguments are such that, were any two of its parameters exchanged, it would give
@@ -361,6 +379,7 @@ static void listing(void) {
 
 int main(void) {
     read_and_records();
+    wrong_bytes();
     order_of_reading_and_writing();
     order_of_changing();
     order_of_solving();

@@ -40,6 +40,10 @@ fn expect(holds: bool, what: &str) -> i32 {
 const FILE: [u8; 36] = [
     1, 4, 3, 3, 2, 0, 3, 3, 4, 0, 0, 4, 1, 1, 4, 2, 1, 4, 2, 2, 5, 0, 1, 5, 2, 3, 6, 1, 1, 7, 0, 7, 1, 7, 2, 8,
 ];
+/// The same with its last step 3, where there are three actions.
+const STRAY: [u8; 36] = [
+    1, 4, 3, 3, 2, 0, 3, 3, 4, 0, 0, 4, 1, 1, 4, 2, 1, 4, 2, 2, 5, 0, 1, 5, 2, 3, 6, 1, 1, 7, 0, 7, 1, 7, 3, 8,
+];
 const TEXT: &str = "task 4 3 3 3\nopen 2 3 1\nset 2\ndrop-delete 1 1\nadd-effect 0 2\nend\n";
 
 /// Where the needs of action 2 stand among a task's words.
@@ -61,6 +65,7 @@ fn files(task: &mut [u64; TASK_WORDS]) -> i32 {
     failed += expect(write_file(task, &mut room, &mut answer) && opens(&room, &FILE), "write");
     failed += expect(check(task, 0, &mut answer) == 0 && opens(&answer, &[0, 0, 2, 3, 1]), "check");
     failed += expect(check(task, 1, &mut answer) == 14 && opens(&answer, &[14, 0, 0, 0, 0]), "check: no such run");
+    failed += expect(read(&STRAY, &mut answer) == 5 && opens(&answer, &[5, 34, 0]), "read: the byte that is wrong");
     failed + expect(read(&FILE, &mut []) == ANSWER_TOO_SHORT, "an answer without room")
 }
 

@@ -72,7 +72,8 @@ enum {
 /* The record at a place of the file. Its body is `length` bytes of the file from `start` on. Answer: ZP_RECORD_WORDS. */
 size_t zp_record(const uint8_t *file, size_t file_len, size_t at, uint64_t *answer, size_t answer_len);
 
-/* The task of a file. Answer: ZP_TASK_ANSWER_WORDS. */
+/* The task of a file; the place of a refusal is the byte that is wrong (02, request 2), or the file's length where its end is
+ * missing. Answer: ZP_TASK_ANSWER_WORDS. */
 size_t zp_read(const uint8_t *file, size_t file_len, uint64_t *answer, size_t answer_len);
 
 /* The task's file into `room`; ZP_FILE_BYTES are always enough. Answer: ZP_REPLY_WORDS. */

@@ -119,7 +119,8 @@ pub fn record(file: &[u8], at: usize, answer: &mut [u64]) -> usize {
     }
 }
 
-/// The task of a file. Answer: `TASK_ANSWER_WORDS`.
+/// The task of a file; the place of a refusal is the byte that is wrong (02, request 2), or the file's length where its end
+/// is missing. Answer: `TASK_ANSWER_WORDS`.
 pub fn read(file: &[u8], answer: &mut [u64]) -> usize {
     // SAFETY: each pointer is good for its length, and what may be written is lent to this call alone.
     unsafe { zp_read(file.as_ptr(), file.len(), answer.as_mut_ptr(), answer.len()) }

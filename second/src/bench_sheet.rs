@@ -1,5 +1,5 @@
-//! Tests of the reference: the bench sheet of document 01, row by row, several runs (02, request 1), and what 01 and 02
-//! say of all tasks.
+//! Tests of the reference: the bench sheet of document 01, row by row, several runs (02, request 1), which byte is
+//! wrong (02, request 2), and what 01 and 02 say of all tasks.
 
 use crate::algorithm1;
 use crate::answer::{answer, Budget};
@@ -103,7 +103,8 @@ fn rows_10_and_11_damaged_files() {
     assert_eq!(read(&[&CASE_2[..], &[0]].concat()), Err(at(Ground::AfterEnd, 36)));
     let mut outside = CASE_2;
     outside[34] = 3;
-    assert_eq!(read(&outside), Err(at(Ground::Outside, 33)));
+    assert_eq!(read(&outside), Err(at(Ground::Outside, 34)));
+    assert_eq!(listing(&outside, Budget::of(ENOUGH)).unwrap(), "refused 5 34\n");
 }
 
 /// Actions that delete fact 0, as many that need it, run in turn.
@@ -142,24 +143,73 @@ fn the_largest_file_has_21516_bytes_and_is_read_back() {
     assert_eq!(read(&file), Ok(full_task()));
 }
 
-#[test]
-fn within_a_record_the_earlier_refusal_is_given() {
-    let sized = [1, 4, 3, 3];
-    let refusal = |bytes: &[u8]| read(&[&sized[..], bytes].concat()).unwrap_err();
-    assert_eq!(read(&[10, 4]), Err(at(Ground::UnknownKind, 0)));
-    assert_eq!(read(&[4, 0]), Err(at(Ground::SizeRecord, 0)), "3 before the short body");
-    assert_eq!(read(&[1, 65]), Err(at(Ground::NoEnd, 0)), "the short body before 4");
-    assert_eq!(refusal(&[1]), at(Ground::SizeRecord, 4), "3 before the short body");
-    assert_eq!(refusal(&[3, 0, 2, 4]), at(Ground::Outside, 6), "5 before 6");
-    assert_eq!(refusal(&[2, 1, 2, 1]), at(Ground::Order, 6));
-    assert_eq!(refusal(&[4, 0, 1, 4, 0, 1]), at(Ground::Order, 7));
-    assert_eq!(refusal(&[7, 0].repeat(65)), at(Ground::TooManySteps, 4 + 128));
-    assert_eq!(refusal(&[[7, 0].repeat(64), vec![7, 3]].concat()), at(Ground::Outside, 4 + 128), "5 before 7");
-}
-
 /// The refusal of a file with these records after the size record of four facts and three actions.
 fn refusal_after_sizes(records: &[&[u8]]) -> Refusal {
     read(&[&[1, 4, 3, 3], records.concat().as_slice()].concat()).unwrap_err()
+}
+
+#[test]
+fn within_a_record_the_earlier_refusal_is_given() {
+    assert_eq!(read(&[10, 4]), Err(at(Ground::UnknownKind, 0)));
+    assert_eq!(read(&[4, 0]), Err(at(Ground::SizeRecord, 0)), "3 before the short body");
+    assert_eq!(read(&[1, 65]), Err(at(Ground::NoEnd, 0)), "the short body before 4");
+    assert_eq!(refusal_after_sizes(&[&[1]]), at(Ground::SizeRecord, 4), "3 before the short body");
+    assert_eq!(refusal_after_sizes(&[&[3, 0, 2]]), at(Ground::NoEnd, 6), "the short body before 6");
+    assert_eq!(refusal_after_sizes(&[&[7, 0].repeat(64), &[7, 3]]), at(Ground::Outside, 4 + 129), "5 before 7");
+}
+
+/// In a record with both, 5 is given, and at its number.
+#[test]
+fn refusal_5_comes_before_6() {
+    assert_eq!(refusal_after_sizes(&[&[3, 0], &[2, 4]]), at(Ground::Outside, 7), "a kind that goes down");
+    assert_eq!(refusal_after_sizes(&[&[5, 0, 0], &[4, 0, 4]]), at(Ground::Outside, 9));
+    assert_eq!(refusal_after_sizes(&[&[5, 0, 0], &[4, 3, 4]]), at(Ground::Outside, 8));
+    assert_eq!(refusal_after_sizes(&[&[4, 1, 1], &[4, 0, 4]]), at(Ground::Outside, 9), "a body that goes down");
+    assert_eq!(refusal_after_sizes(&[&[9], &[4, 0, 4]]), at(Ground::Outside, 7), "a table kind in a further run");
+    assert_eq!(refusal_after_sizes(&[&[9], &[4, 3, 0]]), at(Ground::Outside, 6));
+}
+
+/// "The place of 5 becomes the offset of the first number that is outside" (02, request 2).
+#[test]
+fn refusal_5_is_at_the_first_number_outside() {
+    assert_eq!(refusal_after_sizes(&[&[2, 3], &[2, 4]]), at(Ground::Outside, 7), "a start fact");
+    assert_eq!(refusal_after_sizes(&[&[3, 255]]), at(Ground::Outside, 5), "a goal fact");
+    assert_eq!(refusal_after_sizes(&[&[7, 2], &[7, 3]]), at(Ground::Outside, 7), "a step");
+    for kind in 4..=6 {
+        assert_eq!(refusal_after_sizes(&[&[kind, 3, 3]]), at(Ground::Outside, 5), "the action");
+        assert_eq!(refusal_after_sizes(&[&[kind, 2, 4]]), at(Ground::Outside, 6), "the fact");
+        assert_eq!(refusal_after_sizes(&[&[kind, 3, 4]]), at(Ground::Outside, 5), "both: the action's");
+        assert_eq!(refusal_after_sizes(&[&[kind, 2, 3]]), at(Ground::NoEnd, 7), "neither");
+    }
+}
+
+/// "Of 6 the kind byte if the kind is out of order and the first body byte otherwise" (02, request 2).
+#[test]
+fn refusal_6_is_at_the_kind_byte_or_the_first_body_byte() {
+    assert_eq!(refusal_after_sizes(&[&[3, 0], &[2, 1]]), at(Ground::Order, 6), "a kind that goes down");
+    assert_eq!(refusal_after_sizes(&[&[7, 0], &[6, 0, 0]]), at(Ground::Order, 6));
+    assert_eq!(refusal_after_sizes(&[&[9], &[4, 0, 0]]), at(Ground::Order, 5), "a table kind after kind 9");
+    assert_eq!(refusal_after_sizes(&[&[2, 1], &[2, 1]]), at(Ground::Order, 7), "an equal body");
+    assert_eq!(refusal_after_sizes(&[&[3, 1], &[3, 0]]), at(Ground::Order, 7));
+    for kind in 4..=6 {
+        assert_eq!(refusal_after_sizes(&[&[kind, 1, 2], &[kind, 1, 2]]), at(Ground::Order, 8), "an equal body");
+        assert_eq!(refusal_after_sizes(&[&[kind, 1, 2], &[kind, 1, 1]]), at(Ground::Order, 8), "the second goes down");
+        assert_eq!(refusal_after_sizes(&[&[kind, 1, 2], &[kind, 0, 3]]), at(Ground::Order, 8), "the first goes down");
+        assert_eq!(refusal_after_sizes(&[&[kind, 1, 2], &[kind, 2, 0]]), at(Ground::NoEnd, 10), "ascending");
+    }
+}
+
+/// 5 and 6 alone moved with request 2.
+#[test]
+fn the_other_refusals_stay_at_the_start_of_the_record() {
+    assert_eq!(refusal_after_sizes(&[&[4, 0]]), at(Ground::NoEnd, 4));
+    assert_eq!(refusal_after_sizes(&[&[2, 0], &[10, 0]]), at(Ground::UnknownKind, 6));
+    assert_eq!(refusal_after_sizes(&[&[2, 0], &[1, 4, 3, 3]]), at(Ground::SizeRecord, 6));
+    for sizes in [[0, 1, 0], [65, 1, 0], [1, 0, 0], [1, 33, 0], [1, 1, 7]] {
+        assert_eq!(read(&[&[1], &sizes[..], &[8]].concat()), Err(at(Ground::SizeRange, 0)));
+    }
+    assert_eq!(refusal_after_sizes(&[&[7, 0].repeat(65)]), at(Ground::TooManySteps, 4 + 128));
+    assert_eq!(refusal_after_sizes(&[&[9; 7], &[2, 0], &[9]]), at(Ground::TooManyRuns, 4 + 9));
 }
 
 #[test]
@@ -169,12 +219,12 @@ fn kind_9_opens_a_run_at_its_place() {
     assert_eq!(refusal_after_sizes(&[&[9, 1, 4, 3, 3]]), at(Ground::SizeRecord, 5));
     for table_kind in 4..=6 {
         assert_eq!(refusal_after_sizes(&[&[9, table_kind, 0, 0]]), at(Ground::Order, 5));
-        assert_eq!(refusal_after_sizes(&[&[9, table_kind, 0, 4]]), at(Ground::Outside, 5), "5 before 6");
+        assert_eq!(refusal_after_sizes(&[&[9, table_kind, 0, 4]]), at(Ground::Outside, 7), "5 before 6");
         assert_eq!(refusal_after_sizes(&[&[9, table_kind, 0]]), at(Ground::NoEnd, 5), "the short body before 6");
         assert_eq!(refusal_after_sizes(&[&[9, 2, 0, 3, 0, table_kind, 0, 0]]), at(Ground::Order, 9));
     }
     assert_eq!(refusal_after_sizes(&[&[9, 7, 0, 3, 0]]), at(Ground::Order, 7), "kinds go up within a run");
-    assert_eq!(refusal_after_sizes(&[&[9, 2, 1, 2, 1]]), at(Ground::Order, 7), "bodies ascend within a run");
+    assert_eq!(refusal_after_sizes(&[&[9, 2, 1, 2, 1]]), at(Ground::Order, 8), "bodies ascend within a run");
 }
 
 #[test]

@@ -1,4 +1,4 @@
-//! The task file ("The task file"; 02, request 1): the record reader, the reader of a whole file, and the writer.
+//! The task file ("The task file"; 02, requests 1 and 2): the record reader, the reader of a whole file, the writer.
 
 use crate::answer::lend;
 use crate::refusal::{at, Ground, Refusal};
@@ -26,6 +26,16 @@ pub fn body_length(kind: u8) -> Option<usize> {
     }
 }
 
+/// What each number of a kind's body must be below: A for an action, F for a fact. Nothing for a kind that names none.
+pub fn bounds(kind: u8, facts: usize, actions: usize) -> Vec<usize> {
+    match kind {
+        START | GOAL => vec![facts],
+        NEED | ADD | DELETE => vec![actions, facts],
+        STEP => vec![actions],
+        _ => vec![],
+    }
+}
+
 /// A record of a file; its body is that part of the file.
 #[derive(Clone, Copy, PartialEq, Eq, Debug)]
 pub struct Record<'a> {
@@ -34,6 +44,13 @@ pub struct Record<'a> {
     /// Where the body starts, and where the next record starts.
     pub start: usize,
     pub next: usize,
+}
+
+impl Record<'_> {
+    /// Where the record starts, which is the place of its kind byte.
+    pub fn place(&self) -> usize {
+        self.start - 1
+    }
 }
 
 /// The known kind at a place: 1 at or past the end, 2 for an unknown one.
@@ -67,8 +84,16 @@ pub fn records(file: &[u8]) -> Vec<Record<'_>> {
     found
 }
 
+/// The record that this place of a file stands in, and before it the record that it follows; none for the first.
+pub fn record_around(file: &[u8], place: usize) -> Option<[Record<'_>; 2]> {
+    let found = records(file);
+    let pair = found.windows(2).find(|pair| (pair[1].place()..pair[1].next).contains(&place))?;
+    Some([pair[0], pair[1]])
+}
+
 /// Reads a whole file. The first faulty record decides; within it 1 (no kind byte), 2, 3, 1 (short body), 4, 5, 6, 16,
-/// 7; then 8 after a good end.
+/// 7; then 8 after a good end, at the first such byte. The others are at the record's start, but 5 and 6 at the byte
+/// that is wrong (02, request 2).
 pub fn read(file: &[u8]) -> Result<Task, Refusal> {
     let mut reading = Reading { task: Task::zeros(), last: None };
     let mut place = 0;
@@ -76,9 +101,10 @@ pub fn read(file: &[u8]) -> Result<Task, Refusal> {
         let kind = kind_at(file, place)?;
         reading.size_record_comes_first_and_once(kind, place)?;
         let record = record_at(file, place)?;
-        reading.numbers_fit(&record, place)?;
-        reading.order_holds(&record, place)?;
-        reading.take(&record, place)?;
+        sizes_fit(&record)?;
+        reading.numbers_fit(&record)?;
+        reading.order_holds(&record)?;
+        reading.take(&record)?;
         place = record.next;
         if record.kind == END {
             break;
@@ -89,6 +115,30 @@ pub fn read(file: &[u8]) -> Result<Task, Refusal> {
         return Err(at(Ground::AfterEnd, place));
     }
     Ok(reading.task)
+}
+
+/// Refusal 4.
+fn sizes_fit(record: &Record) -> Result<(), Refusal> {
+    match (record.kind, record.body) {
+        (SIZES, &[facts, actions, limit]) if !sizes_in_range(facts as usize, actions as usize, limit as usize) => {
+            Err(at(Ground::SizeRange, record.place()))
+        }
+        _ => Ok(()),
+    }
+}
+
+/// Where a record breaks the order, if it does. "Kinds never go down. Within each of kinds 2 to 6 the bodies strictly
+/// ascend, first number first." In a further run the order begins anew, and it holds no table kind; kind 9 and the end
+/// are never too early. The place is "the kind byte if the kind is out of order and the first body byte otherwise" (02,
+/// request 2).
+pub fn order_breaks_at(last: &Record, record: &Record, further: bool) -> Option<usize> {
+    let table_kind = (NEED..=DELETE).contains(&record.kind);
+    let down = last.kind != RUN && record.kind < last.kind;
+    if down || (further && table_kind) {
+        return Some(record.place());
+    }
+    let same = record.kind == last.kind && (START..=DELETE).contains(&record.kind);
+    (same && record.body <= last.body).then_some(record.start)
 }
 
 /// What has been read so far, and the last record.
@@ -106,45 +156,24 @@ impl<'a> Reading<'a> {
         Ok(())
     }
 
-    /// Refusals 4 and 5.
-    fn numbers_fit(&self, record: &Record, place: usize) -> Result<(), Refusal> {
-        let fact = |number: u8| (number as usize) < self.task.facts;
-        let action = |number: u8| (number as usize) < self.task.actions;
-        let body = record.body;
-        let fits = match record.kind {
-            SIZES => {
-                let in_range = sizes_in_range(body[0] as usize, body[1] as usize, body[2] as usize);
-                return if in_range { Ok(()) } else { Err(at(Ground::SizeRange, place)) };
-            }
-            START | GOAL => fact(body[0]),
-            NEED | ADD | DELETE => action(body[0]) && fact(body[1]),
-            STEP => action(body[0]),
-            _ => true,
-        };
-        if fits {
-            Ok(())
-        } else {
-            Err(at(Ground::Outside, place))
-        }
+    /// Refusal 5, at "the offset of the first number that is outside" (02, request 2).
+    fn numbers_fit(&self, record: &Record) -> Result<(), Refusal> {
+        let bounds = bounds(record.kind, self.task.facts, self.task.actions);
+        let outside = record.body.iter().zip(bounds).position(|(&number, bound)| number as usize >= bound);
+        outside.map_or(Ok(()), |index| Err(at(Ground::Outside, record.start + index)))
     }
 
-    /// "Kinds never go down. Within each of kinds 2 to 6 the bodies strictly ascend, first number first." In a further
-    /// run the order begins anew, and it holds no table kind; kind 9 and the end are never too early.
-    fn order_holds(&self, record: &Record, place: usize) -> Result<(), Refusal> {
-        let Some(last) = self.last else { return Ok(()) };
+    /// Refusal 6.
+    fn order_holds(&self, record: &Record) -> Result<(), Refusal> {
         let further = self.task.many > 1;
-        let table_kind = (NEED..=DELETE).contains(&record.kind);
-        let down = last.kind != RUN && record.kind < last.kind;
-        let same = record.kind == last.kind && (START..=DELETE).contains(&record.kind);
-        if down || (further && table_kind) || (same && record.body <= last.body) {
-            return Err(at(Ground::Order, place));
-        }
-        Ok(())
+        let place = self.last.and_then(|last| order_breaks_at(&last, record, further));
+        place.map_or(Ok(()), |place| Err(at(Ground::Order, place)))
     }
 
     /// Takes a record that fits into the task; a ninth run and a run's 65th step are refused.
-    fn take(&mut self, record: &Record, place: usize) -> Result<(), Refusal> {
+    fn take(&mut self, record: &Record) -> Result<(), Refusal> {
         let task = &mut self.task;
+        let place = record.place();
         let set = |facts: &mut Facts, fact: u8| *facts = with(*facts, fact as usize, true);
         match (record.kind, record.body) {
             (SIZES, &[facts, actions, limit]) => *task = Task::sized(facts as usize, actions as usize, limit as usize),

@@ -20,12 +20,21 @@ fn faults() -> Vec<String> {
     text(&named).lines().map(str::to_string).collect()
 }
 
+/// Whether reads were refused with this number at the kind byte, the first number, the second number of a record.
+fn places_met(printed: &str, number: u64) -> Vec<bool> {
+    let name = format!("reads refused {number}, at the kind byte, the first number, the second: ");
+    let counts = printed.lines().find_map(|line| line.strip_prefix(name.as_str())).expect("the places are counted");
+    counts.trim_matches(['[', ']']).split(", ").map(|count| count != "0").collect()
+}
+
 #[test]
 fn a_right_driver_passes() {
     let output = compare(&[SECOND, "drive"]);
     assert!(output.status.success(), "{}", text(&output));
     assert!(text(&output).starts_with("seed 7\n"));
     assert!(text(&output).contains("compared 1500 tasks, 1500 files, 1500 edits"));
+    assert_eq!(places_met(&text(&output), 5), [false, true, true]);
+    assert_eq!(places_met(&text(&output), 6), [true, true, false]);
 }
 
 #[test]

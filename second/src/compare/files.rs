@@ -1,6 +1,6 @@
-//! Damage to task files: bits, bytes, records, runs, sizes, cuts, and bytes that never were a file.
+//! Damage to task files: bits, bytes, records, runs, numbers, sizes, cuts, and bytes that never were a file.
 
-use crate::file::{body_length, records, END, NEED, RUN, STEP};
+use crate::file::{body_length, bounds, records, DELETE, END, NEED, RUN, SIZES, START, STEP};
 use crate::random::Random;
 use crate::task::MOST_RUNS;
 
@@ -8,10 +8,11 @@ use crate::task::MOST_RUNS;
 pub fn damaged(good: &[u8], random: &mut Random) -> Vec<u8> {
     let mut file = good.to_vec();
     for _ in 0..random.pick(&[0, 1, 1, 1, 1, 2, 3]) {
-        file = match random.below(5) {
+        file = match random.below(6) {
             0 | 1 => damage_records(&file, random),
             2 => damage_bytes(file, random),
             3 => damage_runs(&file, random),
+            4 => damage_numbers(&file, random),
             _ => damage_ends(file, random),
         };
     }
@@ -112,6 +113,49 @@ fn cut_behind_run(parts: &mut Vec<Vec<u8>>, random: &mut Random) {
     if !places.is_empty() {
         parts.truncate(random.pick(&places) + 1);
         parts.extend(random.chance(8).then(|| vec![random.between(1, RUN as usize) as u8]));
+    }
+}
+
+/// A number outside in a record of kinds 2 to 6, or such a record that does not ascend from the one before it; now and
+/// then both in one record.
+fn damage_numbers(file: &[u8], random: &mut Random) -> Vec<u8> {
+    let mut parts = split(file);
+    let places: Vec<usize> = (START..=DELETE).flat_map(|kind| places_of(&parts, kind)).collect();
+    let &[SIZES, facts, actions, _] = parts.first().map_or(&[][..], Vec::as_slice) else { return file.to_vec() };
+    if places.is_empty() {
+        return file.to_vec();
+    }
+    let mut index = random.pick(&places);
+    let behind = random.chance(8);
+    if behind {
+        parts.insert(index + 1, no_higher(&parts[index], random));
+        index += 1;
+    }
+    if !behind || random.chance(6) {
+        put_outside(&mut parts[index], [facts, actions], random);
+    }
+    parts.concat()
+}
+
+/// The record again, with each number the same or, if it is not 0, lower.
+fn no_higher(record: &[u8], random: &mut Random) -> Vec<u8> {
+    let mut lower = record.to_vec();
+    for number in &mut lower[1..] {
+        if random.chance(8) {
+            *number = random.below((*number).max(1) as usize) as u8;
+        }
+    }
+    lower
+}
+
+/// Puts the first number of a record outside, or the second, or both.
+fn put_outside(record: &mut [u8], [facts, actions]: [u8; 2], random: &mut Random) {
+    let which = random.pick(&[[true, false], [false, true], [true, true]]);
+    let bounds = bounds(record[0], facts as usize, actions as usize);
+    for ((number, bound), outside) in record[1..].iter_mut().zip(bounds).zip(which) {
+        if outside {
+            *number = random.pick(&[bound, bound + 1, 255]).min(255) as u8;
+        }
     }
 }
 

@@ -2,9 +2,10 @@
 
 use std::fmt;
 
-use crate::file::file_of;
+use crate::file::{file_of, record_around};
 use crate::protocol::{Call, Request, Response, CALLS};
 use crate::reference::Means;
+use crate::refusal::Ground;
 use crate::session::ROW;
 use crate::task::Task;
 
@@ -71,6 +72,9 @@ fn hex(bytes: &[u8]) -> String {
 const NUMBERS: usize = 17;
 const FIRST_NUMBERS: usize = 9;
 
+/// The refusals whose place may be within the record (02, request 2).
+const WITHIN: [Ground; 2] = [Ground::Outside, Ground::Order];
+
 /// How much was compared, and what was met on the way.
 #[derive(Default)]
 pub struct Counts {
@@ -87,6 +91,8 @@ pub struct Counts {
     skipped: [usize; CALLS.len()],
     /// Responses per call and refusal number.
     numbers: [[usize; NUMBERS]; CALLS.len()],
+    /// Reads with each of these refusals, by its place: the kind byte, the first number, the second number.
+    within: [[usize; 3]; WITHIN.len()],
     /// First numbers of the rows of opened tables.
     rows: [usize; FIRST_NUMBERS],
 }
@@ -117,9 +123,20 @@ impl Counts {
         self.joined += (means == Means::Join) as usize;
         let number = number_of(expected);
         self.numbers[index(request.call)][number] += 1;
+        if request.call == Call::Read {
+            self.take_place(&request.bytes, number, expected.words[1] as usize);
+        }
         if request.call == Call::Open && number == 0 {
             let numbers = crate::protocol::numbers_of(&expected.bytes);
             numbers.chunks(ROW).for_each(|row| self.rows[row[0] as usize] += 1);
+        }
+    }
+
+    /// Counts a refused read by how far into its record the place is.
+    fn take_place(&mut self, file: &[u8], number: usize, place: usize) {
+        if let Some(which) = WITHIN.iter().position(|&ground| ground as usize == number) {
+            let [_, record] = record_around(file, place).expect("5 and 6 are in a record after the first");
+            self.within[which][place - record.place()] += 1;
         }
     }
 }
@@ -135,6 +152,10 @@ impl fmt::Display for Counts {
                 }
             }
             writeln!(out, ", skipped as too dear {}", self.skipped[index(call)])?;
+        }
+        for (ground, counts) in WITHIN.iter().zip(&self.within) {
+            let number = *ground as usize;
+            writeln!(out, "reads refused {number}, at the kind byte, the first number, the second: {counts:?}")?;
         }
         writeln!(out, "rows opened, by first number 0 to 8: {:?}", self.rows)?;
         writeln!(out, "solves compared with joined rows only: {}", self.joined)?;

@@ -1,27 +1,28 @@
-//! Deliberate faults for the self-driver, among them 01's "errors that look right" and those of several runs: the
-//! comparison must find each.
+//! Deliberate faults for the self-driver, among them 01's "errors that look right", those of several runs and those of
+//! the places of 5 and 6 (02, requests 1 and 2): the comparison must find each.
+
+mod files;
 
 use crate::answer::Budget;
 use crate::drive::Broken;
-use crate::file::{records, Record, DELETE, NEED, RUN, STEP};
 use crate::protocol::{bytes_of, numbers_of, Call, Request, Response};
 use crate::repair::{all_permitted, repaired, Repair};
 use crate::run::{after, all_valid};
 use crate::session::{in_form, row_of, ROW, TABLE, UNUSED};
-use crate::task::{has, Action, Run, Task, MOST_FACTS, MOST_RUNS, MOST_STEPS, WORDS};
+use crate::task::{has, Action, Run, Task, MOST_FACTS, MOST_RUNS, WORDS};
 
 /// A fault makes a wrong response of a request and the right response.
 pub type Fault = fn(&mut Broken, &Request, Response) -> Response;
 
 /// The faults by name.
-pub const FAULTS: [(&str, Fault); 38] = [
+pub const FAULTS: [(&str, Fault); 46] = [
     ("limit-below", limit_below),
-    ("equal-neighbours", equal_neighbours),
-    ("range-after-order", range_after_order),
-    ("short-body-at-end", short_body_at_end),
-    ("past-end-at-length", past_end_at_length),
-    ("bytes-after-end", bytes_after_end),
-    ("no-64th-step", no_64th_step),
+    ("equal-neighbours", files::equal_neighbours),
+    ("range-after-order", files::range_after_order),
+    ("short-body-at-end", files::short_body_at_end),
+    ("past-end-at-length", files::past_end_at_length),
+    ("bytes-after-end", files::bytes_after_end),
+    ("no-64th-step", files::no_64th_step),
     ("no-fact-63", no_fact_63),
     ("unused-actions", unused_actions),
     ("delete-wins", delete_wins),
@@ -40,11 +41,11 @@ pub const FAULTS: [(&str, Fault); 38] = [
     ("later-edits-echo", later_edits_echo),
     ("outside-before-length", outside_before_length),
     ("form-of-used-places-only", form_of_used_places_only),
-    ("table-kinds-in-further-runs", table_kinds_in_further_runs),
-    ("order-not-begun-anew", order_not_begun_anew),
-    ("no-eighth-run", no_eighth_run),
-    ("ninth-run-out-of-order", ninth_run_out_of_order),
-    ("steps-counted-over-all-runs", steps_counted_over_all_runs),
+    ("table-kinds-in-further-runs", files::table_kinds_in_further_runs),
+    ("order-not-begun-anew", files::order_not_begun_anew),
+    ("no-eighth-run", files::no_eighth_run),
+    ("ninth-run-out-of-order", files::ninth_run_out_of_order),
+    ("steps-counted-over-all-runs", files::steps_counted_over_all_runs),
     ("unused-runs", unused_runs),
     ("check-beyond-is-empty", check_beyond_is_empty),
     ("first-run-solved", first_run_solved),
@@ -53,6 +54,14 @@ pub const FAULTS: [(&str, Fault); 38] = [
     ("edit-opens-a-run", edit_opens_a_run),
     ("one-open-line", one_open_line),
     ("steps-of-the-first-run", steps_of_the_first_run),
+    ("outside-at-its-record", files::outside_at_its_record),
+    ("outside-at-the-first-number", files::outside_at_the_first_number),
+    ("outside-at-the-last-number", files::outside_at_the_last_number),
+    ("kind-at-its-body", files::kind_at_its_body),
+    ("table-kind-at-its-body", files::table_kind_at_its_body),
+    ("ascent-at-the-kind", files::ascent_at_the_kind),
+    ("ascent-at-the-number", files::ascent_at_the_number),
+    ("steps-at-the-number", files::steps_at_the_number),
 ];
 
 fn task_of(request: &Request) -> Option<Task> {
@@ -70,91 +79,6 @@ fn limit_below(_: &mut Broken, request: &Request, right: Response) -> Response {
         return Response { words: vec![10, 0, 0], bytes: request.bytes.clone() };
     }
     right
-}
-
-/// The records of a file with the places where they start.
-fn placed(file: &[u8]) -> Vec<(usize, Record<'_>)> {
-    records(file).into_iter().map(|record| (record.start - 1, record)).collect()
-}
-
-/// Bodies that are equal count as ascending.
-fn equal_neighbours(broken: &mut Broken, request: &Request, right: Response) -> Response {
-    if request.call != Call::Read || !refused_with(&right, 6) {
-        return right;
-    }
-    let place = right.words[1] as usize;
-    let records = placed(&request.bytes);
-    let same = records.windows(2).find(|pair| pair[1].0 == place && pair[0].1.body == pair[1].1.body);
-    match same {
-        Some([(_, last), (_, again)]) if last.kind == again.kind => {
-            let bytes = [&request.bytes[..place], &request.bytes[again.next..]].concat();
-            broken.right(&Request { bytes, ..request.clone() })
-        }
-        _ => right,
-    }
-}
-
-/// Order is judged before the range of numbers.
-fn range_after_order(_: &mut Broken, request: &Request, mut right: Response) -> Response {
-    if request.call == Call::Read && refused_with(&right, 5) {
-        let place = right.words[1] as usize;
-        let records = placed(&request.bytes);
-        if records.windows(2).any(|pair| pair[1].0 == place && pair[1].1.kind < pair[0].1.kind) {
-            right.words[0] = 6;
-        }
-    }
-    right
-}
-
-/// A body that passes the end is placed at the end of the file.
-fn short_body_at_end(_: &mut Broken, request: &Request, mut right: Response) -> Response {
-    if request.call == Call::Read && refused_with(&right, 1) {
-        right.words[1] = request.bytes.len() as u64;
-    }
-    right
-}
-
-/// Asked past the end, the record reader gives the file's length as the place.
-fn past_end_at_length(_: &mut Broken, request: &Request, mut right: Response) -> Response {
-    if request.call == Call::Record && refused_with(&right, 1) {
-        right.words[1] = right.words[1].min(request.bytes.len() as u64);
-    }
-    right
-}
-
-/// Bytes after the end are passed over.
-fn bytes_after_end(broken: &mut Broken, request: &Request, right: Response) -> Response {
-    if request.call == Call::Read && refused_with(&right, 8) {
-        let bytes = request.bytes[..right.words[1] as usize].to_vec();
-        return broken.right(&Request { bytes, ..request.clone() });
-    }
-    right
-}
-
-/// The 64th step is one too many.
-fn no_64th_step(_: &mut Broken, request: &Request, right: Response) -> Response {
-    if request.call != Call::Read || !refused_with(&right, 0) {
-        return right;
-    }
-    let records = placed(&request.bytes);
-    let runs = records.split(|(_, record)| record.kind == RUN);
-    let of_kind = |run: &[(usize, Record)]| nth_of_kind(run, STEP, MOST_STEPS);
-    match runs.filter_map(of_kind).next() {
-        Some(place) => refused_read(7, place),
-        None => right,
-    }
-}
-
-/// The place of the n-th of these records, counted from 1, that has this kind.
-fn nth_of_kind(records: &[(usize, Record)], kind: u8, n: usize) -> Option<usize> {
-    let mut places = records.iter().filter(|(_, record)| record.kind == kind).map(|(place, _)| *place);
-    places.nth(n - 1)
-}
-
-/// A refused read.
-fn refused_read(number: u64, place: usize) -> Response {
-    let words = [&[number, place as u64][..], &Task::zeros().words()].concat();
-    Response { words, bytes: vec![] }
 }
 
 /// With 64 facts the last one counts as outside (a shift by 64).
@@ -371,66 +295,6 @@ fn form_of_used_places_only(broken: &mut Broken, request: &Request, right: Respo
         return right;
     }
     broken.right(&Request { bytes: bytes_of(&numbers), ..request.clone() })
-}
-
-/// A table kind in a further run is passed over.
-fn table_kinds_in_further_runs(broken: &mut Broken, request: &Request, right: Response) -> Response {
-    if request.call != Call::Read || !refused_with(&right, 6) {
-        return right;
-    }
-    let place = right.words[1] as usize;
-    let records = placed(&request.bytes);
-    let further = records.iter().any(|(at, record)| *at < place && record.kind == RUN);
-    match records.iter().find(|(at, _)| *at == place) {
-        Some((_, record)) if further && (NEED..=DELETE).contains(&record.kind) => {
-            let bytes = [&request.bytes[..place], &request.bytes[record.next..]].concat();
-            broken.right(&Request { bytes, ..request.clone() })
-        }
-        _ => right,
-    }
-}
-
-/// The kinds of a further run may not go down from those of the run before it.
-fn order_not_begun_anew(_: &mut Broken, request: &Request, right: Response) -> Response {
-    if request.call != Call::Read || !refused_with(&right, 0) {
-        return right;
-    }
-    let mut records = placed(&request.bytes);
-    records.retain(|(_, record)| record.kind != RUN);
-    match records.windows(2).find(|pair| pair[1].1.kind < pair[0].1.kind) {
-        Some(pair) => refused_read(6, pair[1].0),
-        None => right,
-    }
-}
-
-/// The eighth run is one too many.
-fn no_eighth_run(_: &mut Broken, request: &Request, right: Response) -> Response {
-    if request.call != Call::Read || !refused_with(&right, 0) {
-        return right;
-    }
-    match nth_of_kind(&placed(&request.bytes), RUN, MOST_RUNS - 1) {
-        Some(place) => refused_read(16, place),
-        None => right,
-    }
-}
-
-/// A ninth run counts as a record out of order.
-fn ninth_run_out_of_order(_: &mut Broken, request: &Request, mut right: Response) -> Response {
-    if request.call == Call::Read && refused_with(&right, 16) {
-        right.words[0] = 6;
-    }
-    right
-}
-
-/// The 65th step of all runs together is refused.
-fn steps_counted_over_all_runs(_: &mut Broken, request: &Request, right: Response) -> Response {
-    if request.call != Call::Read || !refused_with(&right, 0) {
-        return right;
-    }
-    match nth_of_kind(&placed(&request.bytes), STEP, MOST_STEPS + 1) {
-        Some(place) => refused_read(7, place),
-        None => right,
-    }
 }
 
 /// What stands for unused runs is not looked at.
