@@ -3,6 +3,8 @@
 import textwrap
 import unicodedata
 
+from colours import DIM, GREEN, PLAIN, RED
+
 SIGNS = {(False, False): " . ", (True, False): " + ", (True, True): "[+]", (False, True): "[X]"}  # present, needed
 LEGEND = [
     "Each line shows the facts before its step.",
@@ -12,8 +14,6 @@ CHANGED = " *"  # beside an action that the correction changes
 PITCH = 4  # columns of a fact
 GAP = "   "  # between the parts of a line
 LONGEST_ACTION, LONGEST_FACT = 28, 32
-
-RED, GREEN, DIM, PLAIN = "\033[1;31m", "\033[32m", "\033[2m", "\033[0m"
 
 
 def width(text):

@@ -4,8 +4,9 @@ asked is judged here."""
 import files
 import options
 import words
+from source import DAMAGE
 from stop import UNABLE, Stop
-from taskfile import SIZES, fault, file_of, task_of
+from taskfile import SIZES, fault, file_of, sizes_of, task_of
 
 FOR_A_SOURCE, FOR_A_TASK_FILE = ("task", "table"), ("names",)
 
@@ -22,33 +23,40 @@ class Given:
         self.source = None if is_task_file else files.source_of(self.path, content)
         self.data = content if is_task_file else file_of(self.source)  # the task file
         self.fault = fault(self.data)
+        self.notes = []  # what else is to be said of a refused file
         self.lender = self.lender_of(asked["names"]) if "names" in asked else self.source
 
     def lender_of(self, path):
-        """The source that lends names; it has to have as many as there are facts and actions."""
+        """The source that lends names; it has to have as many as there are facts and actions. A refused file is told all the
+        same, without them."""
         content = files.content(path)
         if files.is_task_file(content):
             raise options.wrong_use(f"--names takes a source, and {files.shown(path)} is none")
         lender = files.source_of(path, content)
-        has = [len(lender.texts(word)) for word in ("facts", "action")]
-        if self.fault is None and has != [self.task().facts, self.task().actions]:
-            needed = f"{self.path} has {self.task().facts} and {self.task().actions}"
-            raise Stop(UNABLE, f"{files.shown(path)}: has names for {has[0]} facts and {has[1]} actions, and {needed}")
-        return lender
+        has, sizes = (len(lender.texts("facts")), len(lender.texts("action"))), sizes_of(self.data)
+        if has == sizes:
+            return lender
+        if sizes:
+            needed = f"{self.path} has {sizes[0]} and {sizes[1]}"
+            self.notes.append(f"{files.shown(path)}: has names for {has[0]} facts and {has[1]} actions, and {needed}")
+        if self.fault is None:
+            raise Stop(UNABLE, *self.notes)
+        return None
 
     def task(self):
         return task_of(self.data)
 
-    def names(self):
-        """The lender's names; those of its runs only if it has as many."""
+    def names(self, runs=None):
+        """The lender's names of the facts and actions that the file has; those of its runs if it has so many."""
         if not self.lender:
             return words.Names()
-        runs = self.lender.run_texts() if len(self.lender.runs) == len(self.task().runs) else None
-        return words.Names(self.lender.texts("facts"), self.lender.texts("action"), runs)
+        facts, actions = sizes_of(self.data) or (0, 0)
+        called = self.lender.run_texts() if len(self.lender.runs) == runs else None
+        return words.Names(self.lender.texts("facts")[:facts], self.lender.texts("action")[:actions], called)
 
     def refusal(self, what):
         """The line that tells a refusal. In a source its place is the statement that damages the file."""
-        damage = [said.word for word in ("cut", "fill") for said in self.source.said[word]] if self.source else []
+        damage = [said.word for word in DAMAGE for said in self.source.said[word]] if self.source else []
         place = f":{damage[0].line}:{damage[0].column}" if damage else ""
-        is_text = not self.data or self.data[0] == SIZES
-        return f"{self.path}{place}: {what}" + ("" if is_text else " (nor is this a source: it is no text in UTF-8)")
+        is_neither = not self.source and self.data[:1] not in (b"", bytes([SIZES]))
+        return f"{self.path}{place}: {what}" + (" (nor is this a source: it is no text in UTF-8)" if is_neither else "")

@@ -2,8 +2,16 @@
 
 from errors import Error, meant
 from source import CELLS, NUMBERS
+from taskfile import MOST_ACTIONS, MOST_FACTS, MOST_LIMIT, MOST_RUNS, MOST_STEPS, whole_file
 
-MOST = {"facts": 64, "action": 32, "run": 8, "steps": 64, "limit": 6, "cut": 1_000_000, "fill": 1_000_000}
+MOST = {"facts": MOST_FACTS, "action": MOST_ACTIONS, "run": MOST_RUNS, "steps": MOST_STEPS}
+LONGEST = 1_000_000  # bytes of a damaged file
+TAKES = {  # how far the numbers of a statement go, and how that is said
+    "limit": ([MOST_LIMIT], f"one number from 0 to {MOST_LIMIT}"),
+    "byte": ([LONGEST, 255], "two numbers: a place in the task file, and a value from 0 to 255"),
+    "cut": ([LONGEST], f"one number from 0 to {LONGEST}"),
+    "fill": ([LONGEST], f"one number from 0 to {LONGEST}"),
+}
 NOUN = {"facts": "fact", "action": "action", "run": "run", "steps": "step"}
 
 
@@ -22,7 +30,7 @@ def errors(source):
         found += [error for word in ("start", "goal") for error in use_errors(known, word, run.names(word))]
         found += [unknown(known, name, "action", "facts") for name in run.names("steps")]
         found += too_many("steps", run.names("steps"))
-    return sorted({error for error in found if error})
+    return sorted({error for error in found if error} or set(place_errors(source)))
 
 
 def cell_names(block, word):
@@ -30,17 +38,32 @@ def cell_names(block, word):
 
 
 def number_errors(source, word):
-    """Of `limit`, `cut` and `fill`: said once, with one number inside its bounds."""
-    said = source.said[word]
+    """Of `limit`, `byte`, `cut` and `fill`: said once, with as many numbers as it takes, each inside its bounds."""
+    said, (most, takes) = source.said[word], TAKES[word]
     found = [statement.word.error(f"'{word}' is said twice: first on line {said[0].word.line}") for statement in said[1:]]
-    for statement in said:
-        text = statement.words[0].text if len(statement.words) == 1 else ""
-        if not (text.isascii() and text.isdigit() and int(text[:9]) <= MOST[word] and len(text) <= 9):
-            at = statement.words[0] if statement.words else statement.word
-            found.append(at.error(f"'{word}' takes one number from 0 to {MOST[word]}"))
+    wrong = [wrong_number(statement, most) for statement in said]
+    found += [at.error(f"'{word}' takes {takes}") for at in wrong if at]
     if word == "limit" and not said:
         found.append(missing(source, "there is no limit: write 'limit 6' for at most six repairs"))
     return found
+
+
+def wrong_number(statement, most):
+    """The word at which a statement has not the numbers that it takes; None where it has them."""
+    for word, bound in zip(statement.words, most):
+        if not (word.text.isascii() and word.text.isdigit() and len(word.text) <= 9 and int(word.text) <= bound):
+            return word
+    if len(statement.words) == len(most):
+        return None
+    return statement.words[0] if statement.words else statement.word
+
+
+def place_errors(source):
+    """Of `byte`: its place is one of the file's, which is there to be looked at where nothing else is wrong."""
+    places = [statement.words[0] for statement in source.said["byte"]]
+    last = len(whole_file(source)) - 1 if places else 0
+    beyond = [at for at in places if int(at.text) > last]
+    return [at.error(f"there is no byte {at.text}: the task file's last is byte {last}") for at in beyond]
 
 
 def missing(source, what):

@@ -2,6 +2,7 @@
 
 import struct
 
+import refusals
 from program import started
 from ready import ROOT, make_ready
 from stop import UNABLE, Stop
@@ -71,7 +72,7 @@ class Library:
 def accepted(words):
     """What a call gave, after number and place; the library has to have accepted it."""
     if words[0] != 0:
-        raise Stop(UNABLE, f"mend: the library refuses with {words[0]} what the program accepts")
+        raise Stop(UNABLE, f"mend: the library refuses with {words[0]} what the program accepts: {refusals.told(words[0])}")
     return words[2:]
 
 

@@ -10,8 +10,6 @@ REFUSED = r"refused (\d+) (\d+)\n"
 OPEN = r"open \d+ \d+ \d+\n"
 WHOLE = re.compile(rf"task (\d+ \d+ \d+ \d+)\n((?:{OPEN})+)(?:{LIST_END}|{REFUSED})|{REFUSED}")
 
-NO_LIST_WORKS, NONE_WITHIN_LIMIT = 9, 10
-
 
 @dataclass(frozen=True)
 class Listing:

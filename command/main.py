@@ -9,6 +9,8 @@ import os
 import shutil
 import sys
 
+import badbyte
+import colours
 import corrected
 import draw_svg
 import draw_text
@@ -36,29 +38,38 @@ def mend(arguments, out):
     given = Given(asked)
     files.judge_outputs(asked, INPUTS, OUTPUTS)
     if given.fault is not None and not is_built():
-        raise Stop(REFUSED, given.refusal(f"refused at byte {given.fault}, before the program is proved and built"))
+        raise refused(given, f"refused at byte {given.fault}, before the program is proved and built", given.fault)
     if "task" in asked:
         files.write(asked["task"], given.data)
     found = listing_of(given.data)
     if "numbers" in asked:
         out.write(found.text)
     if found.sizes is None:
-        raise Stop(REFUSED, given.refusal(words.refusal(found)))
+        if "numbers" in asked:
+            return REFUSED
+        number, place = found.refusal
+        raise refused(given, words.refusal(found), place, number)
+    names = given.names(len(found.opens))
     if "numbers" not in asked:
-        out.write("\n".join(words.answer(given.path, found, given.names(), given.task().runs)) + "\n")
+        out.write("\n".join(words.answer(given.path, found, names, given.task().runs)) + "\n")
     if "show" in asked or "svg" in asked:
-        draw(asked, given, found, out)
+        draw(asked, given, found, names, out)
     if "table" in asked:
         write_table(asked["table"], given, found)
     return LIST if found.refusal is None else NO_LIST
 
 
-def draw(asked, given, found, out):
-    drawn = picture.drawn(given.path, given.data, found, given.names(), Library())
+def refused(given, what, place, number=None):
+    """The end of mend for a refused file: why, and which byte it is."""
+    shown = badbyte.lines(given.data, place, given.names(), colours.allowed(sys.stderr), number)
+    return Stop(REFUSED, given.refusal(what), "", *shown, *(line for note in given.notes for line in ("", note)))
+
+
+def draw(asked, given, found, names, out):
+    drawn = picture.drawn(given.path, given.data, found, names, Library())
     if "show" in asked:
-        coloured = sys.stdout.isatty() and "NO_COLOR" not in os.environ and os.environ.get("TERM") != "dumb"
         columns = shutil.get_terminal_size((100, 24)).columns
-        out.write("\n" + "\n".join(draw_text.lines(drawn, columns, coloured)) + "\n")
+        out.write("\n" + "\n".join(draw_text.lines(drawn, columns, colours.allowed(sys.stdout))) + "\n")
     if "svg" in asked:
         files.write(asked["svg"], draw_svg.svg(drawn).encode("utf-8", "backslashreplace"))
 

@@ -8,7 +8,8 @@ from errors import Error, meant, nearest
 
 CELLS = ("needs", "adds", "deletes")
 OF_A_RUN = ("start", "goal", "steps")
-NUMBERS = ("limit", "cut", "fill")
+DAMAGE = ("byte", "cut", "fill")  # in the order in which it is done
+NUMBERS = ("limit", *DAMAGE)
 STATEMENTS = ("facts", "action", *CELLS, "run", *OF_A_RUN, *NUMBERS)
 FIRST_RUN = "1"  # what a first run without a name is called
 
@@ -117,9 +118,9 @@ class Source:
         """What the runs are called; None where no run statement is there."""
         return [run.name().text for run in self.runs] if self.said["run"] else None
 
-    def number(self, word):
-        """The number of `limit`, `cut` or `fill`; None where it is not said."""
-        return int(self.said[word][0].words[0].text) if self.said[word] else None
+    def numbers(self, word):
+        """The numbers of each statement of `limit`, `byte`, `cut` or `fill`."""
+        return [tuple(int(number.text) for number in statement.words) for statement in self.said[word]]
 
 
 def read(text):

@@ -1,18 +1,40 @@
-"""The task file (document 01, "The task file", and 02's request 1): made from a judged source, and taken apart where the proved
-program has accepted it."""
+"""The task file (document 01, "The task file", and 02's request 1): made from a judged source, and taken apart into its
+records."""
 
 from dataclasses import dataclass, field
 
 SIZES, START, GOAL, NEED, ADD, DELETE, STEP, END, RUN = range(1, 10)
 CELL = {"needs": NEED, "adds": ADD, "deletes": DELETE}
-MOST_STEPS, MOST_RUNS = 64, 8
-BODY = {SIZES: 3, START: 1, GOAL: 1, NEED: 2, ADD: 2, DELETE: 2, STEP: 1, END: 0, RUN: 0}  # how many bytes follow the kind
+FACT, ACTION = "fact", "action"
+BODY = {  # what the numbers after the kind are
+    SIZES: ("facts", "actions", "limit"),
+    START: (FACT,),
+    GOAL: (FACT,),
+    NEED: (ACTION, FACT),
+    ADD: (ACTION, FACT),
+    DELETE: (ACTION, FACT),
+    STEP: (ACTION,),
+    END: (),
+    RUN: (),
+}
+MOST_FACTS, MOST_ACTIONS, MOST_LIMIT, MOST_STEPS, MOST_RUNS = 64, 32, 6, 64, 8
 
 
 def file_of(source):
     """The task file of a source without errors, with its damage where it asks for some."""
-    whole = bytes(number for record in records(source) for number in record)
-    return whole[: source.number("cut")].ljust(source.number("fill") or 0, b"\0")
+    made = bytearray(whole_file(source))
+    for place, value in source.numbers("byte"):
+        made[place] = value
+    for (length,) in source.numbers("cut"):
+        made = made[:length]
+    for (length,) in source.numbers("fill"):
+        made = made.ljust(length, b"\0")
+    return bytes(made)
+
+
+def whole_file(source):
+    """The task file without damage."""
+    return bytes(number for record in records(source) for number in record)
 
 
 def records(source):
@@ -25,7 +47,7 @@ def records(source):
         for statement in block.cells:
             facts = [fact[name.text] for name in statement.names()]
             cells += [(CELL[statement.kind], action[name.text], f) for name in block.statement.names() for f in facts]
-    made = [(SIZES, len(fact), len(action), source.number("limit"))]
+    made = [(SIZES, len(fact), len(action), *source.numbers("limit")[0])]
     for number, run in enumerate(source.runs):
         starts, goals = ([fact[name] for name in run.texts(word)] for word in ("start", "goal"))
         sets = [(START, f) for f in starts] + [(GOAL, f) for f in goals]
@@ -52,54 +74,98 @@ class Task:
     cells: set = field(default_factory=set)  # the records of kinds 4 to 6
     runs: list = field(default_factory=lambda: [Run()])
 
+    def take(self, record):
+        """Takes in what a record says, whole and where it may stand."""
+        if record.kind == SIZES:
+            self.facts, self.actions, self.limit = record.body
+        elif record.kind == RUN:
+            self.runs.append(Run())
+        elif record.kind == GOAL:
+            self.runs[-1].goals |= set(record.body)
+        elif record.kind == STEP:
+            self.runs[-1].steps += record.body
+        elif record.kind in CELL.values():
+            self.cells.add((record.kind, *record.body))
+
+
+@dataclass(frozen=True)
+class Record:
+    """A record as it stands in a file, or as much of it as is there: none of it at the file's end."""
+
+    place: int
+    content: bytes
+
+    @property
+    def kind(self):
+        return self.content[0] if self.content else None
+
+    @property
+    def body(self):
+        return tuple(self.content[1:])
+
+    def missing(self):
+        """How many of its bytes are not there; of an unknown kind that can't be said."""
+        return 1 + len(BODY[self.kind]) - len(self.content)
+
+    def is_whole(self):
+        return self.kind in BODY and self.missing() == 0
+
+
+def records_in(data):
+    """The records of a file, up to the end record or to the first that is not whole."""
+    at, go_on = 0, True
+    while go_on:
+        record = Record(at, data[at : at + 1 + len(BODY.get(kind_at(data, at), ()))])
+        at, go_on = at + len(record.content), record.is_whole() and record.kind != END
+        yield record
+
+
+def kind_at(data, place):
+    return data[place] if place < len(data) else None
+
+
+def sizes_of(data):
+    """How many facts and actions a file has by its first record; None where that does not tell it."""
+    first = next(records_in(data))
+    return first.body[:2] if first.kind == SIZES and first.is_whole() else None
+
 
 def task_of(data):
     """The task of a file that the proved program has accepted."""
-    task, at = Task(), 0
-    while at < len(data):
-        kind = data[at]
-        body = tuple(data[at + 1 : at + 1 + BODY[kind]])
-        at += 1 + len(body)
-        if kind == SIZES:
-            task.facts, task.actions, task.limit = body
-        elif kind == RUN:
-            task.runs.append(Run())
-        elif kind == GOAL:
-            task.runs[-1].goals |= set(body)
-        elif kind == STEP:
-            task.runs[-1].steps += body
-        elif kind in CELL.values():
-            task.cells.add((kind, *body))
+    task = Task()
+    for record in records_in(data):
+        task.take(record)
     return task
 
 
 def fault(data):
-    """The byte from which a file is not as 01 and 02 have it, or None. The verdict is the proved program's; this is looked at
-    only where the program would have to be proved first."""
-    if data[:1] != bytes([SIZES]):
-        return 0
-    at, before, sizes, runs, steps = 0, (0,), (0, 0), 1, 0
-    while data[at : at + 1] != bytes([END]):
-        kind = data[at] if at < len(data) else None
-        record = tuple(data[at : at + 1 + BODY.get(kind, 0)])
-        sizes = record[1:3] if at == 0 else sizes
-        runs, steps = (runs + 1, 0) if kind == RUN else (runs, steps + (kind == STEP))
-        inside = runs <= MOST_RUNS and steps <= MOST_STEPS
-        if not (len(record) == 1 + BODY.get(kind, 9) and follows(record, before, sizes, runs) and inside):
-            return at
-        at, before = at + len(record), (SIZES,) if kind == RUN else record
-    return None if len(data) == at + 1 else at + 1
+    """The byte that is wrong in a file that is not as 01 and 02 have it, or None. The verdict is the proved program's; this is
+    looked at only where the program would have to be proved first."""
+    task, before = Task(), None
+    for record in records_in(data):
+        wrong = wrong_byte(record, before, task)
+        if wrong is not None:
+            return record.place + wrong
+        task.take(record)
+        before = record
+    return None if len(data) == before.place + 1 else before.place + 1
 
 
-def follows(record, before, sizes, runs):
-    """Whether a record may stand after another, in a file of so many facts and actions and in the run of this number."""
-    kind, *body = record
-    facts, actions = sizes
+def wrong_byte(record, before, task):
+    """Which byte of a record is wrong where it follows another, and the task is that of all before it: counted from its kind
+    byte (02's request 2, in 01's order of the refusals); None where the record is good."""
+    kind, is_cell = record.kind, record.kind in CELL.values()
+    if not record.is_whole() or (kind == SIZES) != (before is None):
+        return 0  # 1, 2, 3
     if kind == SIZES:
-        return before == (0,) and 1 <= facts <= 64 and 1 <= actions <= 32 and body[2] <= 6
-    if kind == RUN:
-        return True
-    is_cell = kind in CELL.values()
-    inside = body[-1] < (actions if kind == STEP else facts) and (body[0] < actions or not is_cell)
-    in_order = kind > before[0] or record > before or kind == before[0] == STEP
-    return inside and in_order and (runs == 1 or not is_cell)
+        facts, actions, limit = record.body
+        return None if 1 <= facts <= MOST_FACTS and 1 <= actions <= MOST_ACTIONS and limit <= MOST_LIMIT else 0  # 4
+    for at, (what, number) in enumerate(zip(BODY[kind], record.body), 1):
+        if number >= (task.facts if what == FACT else task.actions):
+            return at  # 5
+    if kind < before.kind != RUN or is_cell and len(task.runs) > 1:
+        return 0  # 6
+    if kind == before.kind and kind not in (STEP, RUN) and record.body <= before.body:
+        return 1  # 6
+    is_ninth, is_65th = len(task.runs) == MOST_RUNS, len(task.runs[-1].steps) == MOST_STEPS
+    return 0 if kind == RUN and is_ninth or kind == STEP and is_65th else None  # 16, 7

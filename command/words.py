@@ -2,19 +2,7 @@
 
 from dataclasses import dataclass
 
-import listing
-
-REFUSALS = {  # of a file (document 01, "Refusal numbers"; 16: 02's request 1)
-    1: "the end record is missing, or a record passes the end of the file",
-    2: "no record has this kind",
-    3: "the sizes don't stand first, or stand there twice",
-    4: "a size is out of range",
-    5: "a fact or an action is outside",
-    6: "records are out of order",
-    7: "a run has more than 64 steps",
-    8: "there are bytes after the end record",
-    16: "there are more than 8 runs",
-}
+import refusals
 
 REPAIRS = {
     "drop-delete": "{action} should not end {fact}",
@@ -25,17 +13,17 @@ REPAIRS = {
 
 @dataclass(frozen=True)
 class Names:
-    """What facts, actions and runs are called: by a source's names, or by their numbers."""
+    """What facts, actions and runs are called: by a source's names, or where there are none by their numbers."""
 
-    facts: list = None
-    actions: list = None
+    facts: list = ()
+    actions: list = ()
     runs: list = None
 
     def fact(self, number):
-        return self.facts[number] if self.facts else f"fact {number}"
+        return self.facts[number] if number < len(self.facts) else f"fact {number}"
 
     def action(self, number):
-        return self.actions[number] if self.actions else f"action {number}"
+        return self.actions[number] if number < len(self.actions) else f"action {number}"
 
     def headings(self, many):
         """What each of so many runs is headed by; a single one without a name by nothing."""
@@ -93,11 +81,10 @@ def change(found, names):
 
 
 def no_list(found):
-    if found.refusal[0] == listing.NO_LIST_WORKS:
-        return f"No list of repairs, of any length, makes {all_of_them(found)} valid."
-    return f"A list of repairs makes {all_of_them(found)} valid, but none of at most {found.sizes[2]}, which is the limit."
+    told = refusals.told(found.refusal[0], all_of_them(found), found.sizes[2])
+    return f"{told[0].upper()}{told[1:]}."
 
 
 def refusal(found):
     number, place = found.refusal
-    return f"refused {number} at byte {place}: {REFUSALS[number]}"
+    return f"refused {number} at byte {place}: {refusals.told(number)}"

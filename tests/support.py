@@ -2,6 +2,7 @@
 
 import os
 import pathlib
+import pty
 import subprocess
 import sys
 import tempfile
@@ -39,6 +40,24 @@ def mend(*arguments, command=ROOT / "mend", **how):
     """Runs mend; its output is text, and what it got from nowhere is nothing."""
     settings = {"stdout": subprocess.PIPE, "stderr": subprocess.PIPE, "stdin": subprocess.DEVNULL, **how}
     return subprocess.run([str(word) for word in (command, *arguments)], check=False, encoding="utf-8", **settings)
+
+
+def in_terminal(arguments, stream="stdout", command=ROOT / "mend", **environment):
+    """What mend writes to a terminal on one of its streams; the other one is let go."""
+    ours, theirs = pty.openpty()
+    plain = {word: value for word, value in os.environ.items() if word not in ("NO_COLOR", "COLUMNS")}
+    environment = {**plain, "TERM": "xterm", "COLUMNS": "100", **environment}
+    streams = {"stdout": subprocess.DEVNULL, "stderr": subprocess.DEVNULL, stream: theirs}
+    with subprocess.Popen([command, *arguments], env=environment, cwd=ROOT, **streams):
+        os.close(theirs)
+        written = b""
+        try:
+            while part := os.read(ours, 65536):
+                written += part
+        except OSError:  # the end of a terminal whose other side is closed
+            pass
+    os.close(ours)
+    return written.decode().replace("\r\n", "\n")
 
 
 class Case(unittest.TestCase):

@@ -2,13 +2,11 @@
 
 import io
 import os
-import pty
 import re
-import subprocess
 import xml.etree.ElementTree
 from unittest import mock
 
-from support import LIST, NO_LIST, ROOT, SAMPLES, Case, mend
+from support import LIST, NO_LIST, ROOT, SAMPLES, Case, in_terminal, mend
 
 import draw_text
 import library
@@ -93,23 +91,6 @@ run long
 
 def shown(told):
     return told[re.search("the runs? of", told).start() :]
-
-
-def in_terminal(arguments, **environment):
-    """What mend writes to a terminal."""
-    ours, theirs = pty.openpty()
-    plain = {word: value for word, value in os.environ.items() if word not in ("NO_COLOR", "COLUMNS")}
-    environment = {**plain, "TERM": "xterm", "COLUMNS": "100", **environment}
-    with subprocess.Popen([ROOT / "mend", *arguments], stdout=theirs, env=environment, cwd=ROOT):
-        os.close(theirs)
-        written = b""
-        try:
-            while part := os.read(ours, 65536):
-                written += part
-        except OSError:  # the end of a terminal whose other side is closed
-            pass
-    os.close(ours)
-    return written.decode().replace("\r\n", "\n")
 
 
 class Drawing(Case):

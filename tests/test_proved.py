@@ -8,6 +8,7 @@ import subprocess
 import sys
 import time
 
+from refused_files import AT_THE_END, DISORDERED, OUTSIDE
 from support import LIST, REFUSED, ROOT, SAMPLES, UNABLE, Case, mend
 
 PROGRAM = '"$0/c/run.sh" "$0/target/bin/zernoplysk"'
@@ -69,17 +70,31 @@ class Stands(Case):
     def test_nothing_is_proved_for_bad_arguments_or_input(self):
         bad = self.file("bad.txt", "limit 9\n")
         story = SAMPLES / "story.txt"
-        torn, task = SAMPLES / "damaged.task", SAMPLES / "story.task"
-        cases = [["--help"], [], ["none"], [self.folder], [bad], [torn], [story, "--shw"], [story, "--task", "/none/out"]]
+        damaged, task = SAMPLES / "damaged.task", SAMPLES / "story.task"
+        cases = [["--help"], [], ["none"], [self.folder], [bad], [damaged], [story, "--shw"], [story, "--task", "/none/out"]]
         cases += [[story, "--svg", "/"], [task, "--names", SAMPLES / "first.txt"], [task, "--table", "x"]]
         for arguments in cases:
             self.mend(*arguments)
         self.assertEqual(self.started(), [])
 
-    def test_a_torn_file_is_refused_without_the_program(self):
-        for name, place in (("damaged.task", "35"), ("trailing.task", "21516")):
-            path = SAMPLES / name
-            self.expect(self.mend(path), REFUSED, f"{path}: refused at byte {place}, before the program is proved and built")
+    def test_a_refused_file_is_shown_without_the_program(self):
+        """Its byte and the record, as the program would have them; and not what only the number of the refusal tells."""
+        for name, (data, _, place, shown) in {**AT_THE_END, **OUTSIDE, **DISORDERED}.items():
+            with self.subTest(name=name):
+                path = self.file("file", data)
+                left = [line for line in shown.splitlines() if not line.startswith(("there ", "after ", "and after "))]
+                if place == len(data) > 0:
+                    left = shown.splitlines()
+                told = f"{path}: refused at byte {place}, before the program is proved and built"
+                for option in ([], ["--numbers"]):
+                    self.assertEqual(self.expect(self.mend(path, *option), REFUSED, [told, "", *left]), "")
+        self.assertEqual(self.started(), [])
+
+    def test_a_refused_source_is_shown_without_the_program(self):
+        path = self.file("a.txt", (SAMPLES / "first.txt").read_text() + "byte 16 9\n")
+        told, *shown = self.mend(path).stderr.splitlines()
+        self.assertEqual(told, f"{path}:19:1: refused at byte 16, before the program is proved and built")
+        self.assertEqual(shown[-1], "the record at byte 14: 04 02 09, a need: store-row, fact 9")
 
     def test_proving_tells_which_crate_of_how_many(self):
         told = ["mend: proving and building first, 3 crates; from nothing that takes some minutes"]

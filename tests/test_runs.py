@@ -60,8 +60,8 @@ class TaskFiles(Case):
     def test_order_begins_anew_in_a_run(self):
         head = b"\1\2\2\3\2\1\4\0\0\7\0\11"
         good = [b"\10", b"\11\10", b"\2\0\2\1\3\0\7\1\7\0\10", b"\7\0\11\2\0\10"]
-        bad = {b"\4\0\0\10": 0, b"\5\0\0\10": 0, b"\6\0\0\10": 0, b"\1\2\2\3\10": 0}
-        bad |= {b"\2\1\2\0\10": 2, b"\7\0\2\0\10": 2, b"\3\0\2\1\10": 2}
+        bad = {b"\4\0\0\10": 0, b"\5\0\0\10": 0, b"\6\0\0\10": 0, b"\1\2\2\3\10": 0, b"\2\0\5\0\0\10": 2}
+        bad |= {b"\2\1\2\0\10": 3, b"\7\0\2\0\10": 2, b"\3\0\2\1\10": 2, b"\4\2\0\10": 1, b"\5\0\2\10": 2}
         self.assertEqual([taskfile.fault(head + tail) for tail in good], [None] * len(good))
         self.assertEqual([taskfile.fault(head + tail) for tail in bad], [len(head) + at for at in bad.values()])
 

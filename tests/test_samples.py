@@ -1,4 +1,4 @@
-"""Every sample: its listing in numbers, its status, and the answer in words."""
+"""Every sample: its listing in numbers, its status, the answer in words, and what its page and the README show of it."""
 
 import re
 
@@ -6,13 +6,15 @@ from support import LIST, NO_LIST, REFUSED, ROOT, SAMPLES, Case, mend
 
 STATUS = {
     "first": LIST, "story": LIST, "runs": LIST, "pairs": LIST, "fullest": LIST, "wordiest": LIST,
-    "hopeless": NO_LIST, "over": NO_LIST, "damaged": REFUSED, "trailing": REFUSED,
+    "hopeless": NO_LIST, "over": NO_LIST, "damaged": REFUSED, "torn": REFUSED, "trailing": REFUSED,
 }  # fmt: skip
-PLACES = {"damaged": ":20:1", "trailing": ":51:1"}
+PLACES = {"damaged": ":20:1", "torn": ":20:1", "trailing": ":51:1"}  # of the statement that damages the file
 REFUSALS = {
-    "damaged": "refused 1 at byte 35: the end record is missing, or a record passes the end of the file",
+    "damaged": "refused 5 at byte 34: no fact or action has this number",
+    "torn": "refused 1 at byte 35: the end record is missing, or a record passes the end of the file",
     "trailing": "refused 8 at byte 21516: there are bytes after the end record",
 }
+MARKED = {"damaged": "[03]", "torn": "[..]", "trailing": "[00]"}
 
 STORY = """\
 {file}: 8 facts, 9 actions, 19 steps, at most 6 repairs
@@ -49,17 +51,20 @@ class Samples(Case):
 
     def test_numbers_are_the_listing(self):
         for name, status in STATUS.items():
-            for end, place in (("txt", PLACES.get(name)), ("task", "")):
+            for end in ("txt", "task"):
                 with self.subTest(name=name, end=end):
-                    path = SAMPLES / f"{name}.{end}"
-                    error = f"{path}{place}: {REFUSALS[name]}" if status == REFUSED else None
-                    listing = self.expect(mend(path, "--numbers"), status, error)
+                    listing = self.expect(mend(SAMPLES / f"{name}.{end}", "--numbers"), status)
                     self.assertEqual(listing, (SAMPLES / f"{name}.listing").read_text())
 
     def test_a_refused_file_has_no_answer(self):
+        """Only why it is refused and where, and the byte; of the source the same as of its task file with its names."""
         for name, place in PLACES.items():
             path = SAMPLES / f"{name}.txt"
-            self.assertEqual(self.expect(mend(path), REFUSED, f"{path}{place}: {REFUSALS[name]}"), "")
+            ran, lent = mend(path), mend(path.with_suffix(".task"), "--names", path)
+            told, *shown = ran.stderr.splitlines()
+            self.assertEqual((ran.returncode, ran.stdout, told), (REFUSED, "", f"{path}{place}: {REFUSALS[name]}"))
+            self.assertEqual((lent.returncode, lent.stderr.splitlines()[1:]), (REFUSED, shown))
+            self.assertEqual("".join(shown).count(MARKED[name]), 1)
 
     def test_words_of_the_story(self):
         told = self.expect(mend("samples/story.txt", cwd=ROOT), LIST)
@@ -81,12 +86,25 @@ class Samples(Case):
                 self.assertEqual(mend(SAMPLES / f"{name}.txt", "--task", self.folder / "out").returncode, status)
                 self.assertEqual((self.folder / "out").read_bytes(), (SAMPLES / f"{name}.task").read_bytes())
 
-    def test_readme_shows_what_is_printed(self):
-        blocks = re.findall(r"(?m)^    \$ \./mend (.*)\n((?:(?:    .*)?\n)+)", (ROOT / "README.md").read_text())
-        self.assertTrue(blocks)
-        for words, shown in blocks:
-            printed = self.expect(mend(*words.split(), cwd=ROOT), LIST)
-            self.assertEqual([line[4:] for line in shown.rstrip().splitlines()], printed.rstrip().splitlines())
+    def test_pages_show_what_is_printed(self):
+        """Each block of a page that begins with `$ ./mend`, up to the next one or the block's end."""
+        seen = set()
+        for page in [ROOT / "README.md", *(ROOT / "docs").glob("*.md"), *SAMPLES.glob("*.md")]:
+            for words, shown in re.findall(r"(?m)^    \$ \./mend (.*)\n((?:(?:    (?!\$ ).*)?\n)*)", page.read_text()):
+                with self.subTest(page=page.name, words=words):
+                    ran = mend(*words.split(), cwd=ROOT)
+                    self.assertEqual([line[4:] for line in shown.rstrip().splitlines()], (ran.stdout + ran.stderr).splitlines())
+                    seen.add(page.name)
+        self.assertLessEqual({"README.md", "damaged.md", "torn.md", "trailing.md"}, seen)
+
+    def test_the_story_of_the_damaged_byte(self):
+        """samples/damaged.md: one bit is turned, and each of the three actions would be accepted."""
+        whole, damaged = ((SAMPLES / f"{name}.task").read_bytes() for name in ("first", "damaged"))
+        changed = [(place, old ^ new) for place, (old, new) in enumerate(zip(whole, damaged)) if old != new]
+        self.assertEqual((len(damaged), changed), (len(whole), [(34, 1)]))
+        for action in range(3):
+            path = self.file("a.task", whole[:34] + bytes([action]) + whole[35:])
+            self.assertIn(mend(path).returncode, (LIST, NO_LIST))
 
     def test_readme_shows_the_picture_that_is_drawn(self):
         self.assertIn("](docs/story.svg)", (ROOT / "README.md").read_text())

@@ -6,6 +6,7 @@ HEAD = "limit 3\nfacts a-known b\n"
 TAIL = "action go\nsteps go\n"
 RANGE = "is no range: one is written {1..3}, runs upwards, and has at most 64 numbers"
 LIMIT = "'limit' takes one number from 0 to 6"
+BYTE = "'byte' takes two numbers: a place in the task file, and a value from 0 to 255"
 ONE_NAME = "'run' takes one name"
 NO_RUN = "is said of no run: it stands above every 'run', where no steps are, and each run says its own"
 
@@ -58,6 +59,19 @@ ERRORS = {  # a source: its errors
     HEAD + TAIL + "run a\nsteps" + " go" * 65 + "\n": ["6:199: 'go' is step number 65, and there may be 64"],
     HEAD + TAIL + "cut many\n": ["5:5: 'cut' takes one number from 0 to 1000000"],
     HEAD + TAIL + "fill 9999999\n": ["5:6: 'fill' takes one number from 0 to 1000000"],
+    HEAD + TAIL + "byte\n": [f"5:1: {BYTE}"],
+    HEAD + TAIL + "byte 3\n": [f"5:6: {BYTE}"],
+    HEAD + TAIL + "byte 3 4 5\n": [f"5:6: {BYTE}"],
+    HEAD + TAIL + "byte -1 4\n": [f"5:6: {BYTE}"],
+    HEAD + TAIL + "byte 3  256\n": [f"5:9: {BYTE}"],
+    HEAD + TAIL + "byte 3 0x4\n": [f"5:8: {BYTE}"],
+    HEAD + TAIL + "byte 7 256\n": [f"5:8: {BYTE}"],
+    HEAD + TAIL + "byte " + "9" * 5000 + " 4\n": [f"5:6: {BYTE}"],
+    HEAD + TAIL + "  byte 7 4\n": ["5:8: there is no byte 7: the task file's last is byte 6"],
+    HEAD + TAIL + "byte 999999 4\ncut 2\nfill 9\n": ["5:6: there is no byte 999999: the task file's last is byte 6"],
+    HEAD + TAIL + "byte 7 4\nstart zzz\n": ["6:7: there is no fact 'zzz'"],
+    HEAD + TAIL + "byte 3 4\nbyte 3 4\n": ["6:1: 'byte' is said twice: first on line 5"],
+    HEAD + TAIL + "bytes 7 4\n": ["5:1: 'bytes' is no statement; did you mean 'byte'?"],
 }
 
 
@@ -85,6 +99,25 @@ class Sources(Case):
         for option in ("--task", "--table", "--svg"):
             self.assertEqual(mend(path, option, self.folder / "out").returncode, REFUSED)
         self.assertEqual([each.name for each in self.folder.iterdir()], ["bad.txt"])
+
+    def test_damage(self):
+        """A byte is written first; then the file is cut, and then filled."""
+        cases = {
+            "": "01 02 01 03 07 00 08",
+            "byte 0 255\n": "ff 02 01 03 07 00 08",
+            "fill 9\nbyte 6 0\n": "01 02 01 03 07 00 00 00 00",
+            "cut 4\nbyte 3 9\n": "01 02 01 09",
+            "cut 2\nfill 5\nbyte 4 255\n": "01 02 00 00 00",
+            "cut 6\nfill 7\nbyte 5 7\n": "01 02 01 03 07 07 00",
+        }
+        for damage, data in cases.items():
+            mend(self.file("a.txt", HEAD + TAIL + damage), "--task", self.folder / "out")
+            self.assertEqual((self.folder / "out").read_bytes().hex(" "), data, damage)
+
+    def test_the_place_of_a_refusal_is_the_first_damage(self):
+        for damage, at in (("cut 6\n", "5:1"), ("fill 9\n  cut 5\n", "6:3"), ("cut 5\n\n byte 5 1\n", "7:2")):
+            path = self.file("a.txt", HEAD + TAIL + damage)
+            self.assertEqual(mend(path).stderr.partition(" refused ")[0], f"{path}:{at}:")
 
     def test_line_ends_and_marks_of_other_machines(self):
         told = [self.expect(mend(self.file("a.txt", text)), LIST) for text in (GOOD, GOOD.replace("\n", "\r\n"), "\ufeff" + GOOD)]

@@ -5,7 +5,7 @@ import struct
 import unittest
 from unittest import mock
 
-from support import GOOD, LIST, SAMPLES, Case, mend
+from support import GOOD, LIST, SAMPLES, UNABLE, Case, mend
 
 import corrected
 import judging
@@ -116,6 +116,21 @@ class Table(Case):
 
     def test_a_group_is_said_apart_where_its_actions_differ(self):
         self.assertEqual(corrected.text(source.read(GROUPS), REPAIRS), CORRECTED)
+
+    def test_a_source_with_a_byte_written(self):
+        """Where the file is accepted with it the table is corrected all the same; not where the correction moves that byte, or
+        leaves no such place."""
+        text = GOOD + "byte 3 6\n"  # the limit
+        corrected = text.replace("  needs door-shut\n", "  needs door-shut\n  adds  lamp-on\n")
+        self.assertEqual(self.table(self.file("a.txt", text)), corrected)
+        moved = GOOD + "byte 15 1\n"  # the step
+        last = len((SAMPLES / "pairs.task").read_bytes()) - 1
+        gone = (SAMPLES / "pairs.txt").read_text() + f"byte {last} 8\n"
+        out = self.folder / "none"
+        error = f"{out}: not written: the corrected source is not what the library's apply gives"
+        for text in (moved, gone):
+            self.assertIn("To change", self.expect(mend(self.file("a.txt", text), "--table", out), UNABLE, error))
+        self.assertFalse(out.exists())
 
     def test_a_table_that_differs_is_not_written(self):
         out = self.folder / "out"

@@ -61,26 +61,11 @@ class Input(Case):
         self.expect(mend(STORY / "x"), UNABLE, f"{STORY}/x: can't be read: Not a directory")
         self.expect(mend(TASK, "--names", missing), UNABLE, f"{missing}: can't be read: No such file or directory")
 
-    def test_no_text(self):
-        cases = {
-            b"": "refused 1 at byte 0: the end record is missing, or a record passes the end of the file",
-            b"\x89PNG\r\n\x1a\n": f"refused 2 at byte 0: no record has this kind{NO_TEXT}",
-            GOOD.encode("utf-16"): f"refused 2 at byte 0: no record has this kind{NO_TEXT}",
-            b"\x02\x00\x08": f"refused 3 at byte 0: the sizes don't stand first, or stand there twice{NO_TEXT}",
-            b"\x01\x41\x01\x01\x08": "refused 4 at byte 0: a size is out of range",
-            b"\x01\x01\x01\x01\x02\x01\x08": "refused 5 at byte 4: a fact or an action is outside",
-            b"\x01\x02\x01\x01\x02\x01\x02\x00\x08": "refused 6 at byte 6: records are out of order",
-            b"\x01\x01\x01\x01" + b"\x07\x00" * 65 + b"\x08": "refused 7 at byte 132: a run has more than 64 steps",
-            b"\x01\x01\x01\x01\x09\x04\x00\x00\x08": "refused 6 at byte 5: records are out of order",
-            b"\x01\x01\x01\x01" + b"\x09" * 8 + b"\x08": "refused 16 at byte 11: there are more than 8 runs",
-        }
-        for content, refusal in cases.items():
-            with self.subTest(refusal=refusal):
-                path = self.file("file", content)
-                self.assertEqual(self.expect(mend(path), REFUSED, f"{path}: {refusal}"), "")
-
     def test_input_without_end(self):
-        self.expect(mend("/dev/zero"), REFUSED, f"/dev/zero: refused 2 at byte 0: no record has this kind{NO_TEXT}")
+        told = [f"/dev/zero: refused 2 at byte 0: no record has this kind{NO_TEXT}", ""]
+        told += ["   0 [00]" + " ".join(["00"] * 15), "  16  " + " ".join(["00"] * 16), ""]
+        told += ["the record at byte 0: 00, and no record has this kind: kinds are 01 to 09"]
+        self.expect(mend("/dev/zero"), REFUSED, told)
 
     def test_a_source_that_is_too_long(self):
         path = self.file("long.txt", GOOD + "#" * 1_000_000)
