@@ -16,7 +16,7 @@ use Rattle.listing.proofs.Determined.{listing-unique}
 use Rattle.text.specs.Ascii.{bytesOf}
 use Rattle.listing.specs.Listing.{ListsInto, answerRoom}
 use Rattle.text.specs.Text.{textOf, readText, line, each, digits}
-use Rattle.runcheck.specs.OpenNeeds.{openNeeds, refusedCheck, statesOf, checked, openReport, totalOpen, firstOpen, lowestOpen, openAt, isOpen}
+use Rattle.runcheck.specs.OpenNeeds.{openNeeds, refusedCheck, statesOf, checked, openReport, totalOpen, firstOpen, lowestOpen, openAt, isOpen, mayRun, controllerAt}
 use Rattle.runcheck.specs.declared.Checked.{Checked}
 use Rattle.session.proofs.CallLaws.{edit-clear}
 use Rattle.session.proofs.StoryLaws.{story-ends, ends-solved}
@@ -50,7 +50,7 @@ use Rattle.table.specs.declared.TaskReply.{TaskReply}
 use Rattle.promises.proofs.CertificateLaws.{certified-well, certified-only}
 use Rattle.promises.specs.Determined.{Only}
 use Rattle.promises.specs.Certificates.{isRightWith, mends, certifies, certified, ofFact, partsOf}
-use Rattle.promises.specs.Sheet.{reads, lists, checks, solves, refuses, works-later, edits, Stands, AllHold, all, _and_, deleteAbsent, untouched, listingText, refusedText, strayText, sheet, stepsOf, refusalFiles, twoRunsFile, twoRunsText, severalRuns, figures}
+use Rattle.promises.specs.Sheet.{reads, lists, checks, solves, refuses, works-later, edits, Stands, AllHold, all, _and_, deleteAbsent, untouched, listingText, refusedText, strayText, sheet, stepsOf, refusalFiles, twoRunsFile, twoRunsText, severalRuns, keepsTheGoal, givesNothing, triesTheNext, rejectedSteps, figures}
 
 -- ---- what is enough for a row of each kind
 
@@ -134,7 +134,7 @@ hopeless-told : (room : List ℕ) → told hopeless room ≡ refused 9 room
 unfolding told
 hopeless-told room = refl
 
-listing-text : (c : ℕ → Checked) → c 0 ≡ openNeeds 2 3 1 → bytesOf listingText ≡ textOf (acceptedRead listingTask) c (given pair answerRoom)
+listing-text : (c : ℕ → Checked) → c 0 ≡ openNeeds 3 3 1 → bytesOf listingText ≡ textOf (acceptedRead listingTask) c (given pair answerRoom)
 unfolding given textOf readText line each digits gather sumBelow
 listing-text c e = rw e
 
@@ -153,8 +153,8 @@ later-row : Stands (works-later deletesTheGoal (32 ∷ []) (0 ∷ []))
 later-row = (worked .row-7 .1, worked .row-7 .2)
 
 -- All lists under one, so that what is computed is named once.
-computed : AllHold sheet × AllHold refusalFiles × AllHold severalRuns × AllHold figures
-unfolding readFile readFrom faultsAt wrongByte placeOf firstOf isKind fileOrder firstPlace positionOf isCellKind isFactKind bodyLength bodyAt misplaced sizesWrong outside disordered tableAfter runsAfter seenAfter checked openReport totalOpen firstOpen lowestOpen openAt isOpen sumBelow countBelow firstWhere pairSteps stepsOf certified certifies mends isRightWith isRight isAllRight isFormed isShaped everyPlace ofFact formed sizesFormed runFormed runFits actionFormed maskFormed stepFormed stepFits everyBelow cellsOf courseOf stateAt permitted permits chosen isIn has within joined removed only setCell gather someBelow isHopeless isOver foundList cellInside names joinRows readAgainst
+computed : AllHold sheet × AllHold refusalFiles × AllHold severalRuns × AllHold rejectedSteps × AllHold figures
+unfolding readFile readFrom faultsAt wrongByte placeOf firstOf isKind fileOrder firstPlace positionOf isCellKind isFactKind bodyLength bodyAt misplaced sizesWrong outside disordered tableAfter runsAfter seenAfter checked openReport totalOpen firstOpen lowestOpen openAt isOpen mayRun controllerAt sumBelow countBelow firstWhere pairSteps stepsOf certified certifies mends isRightWith isRight isAllRight isFormed isShaped everyPlace ofFact formed sizesFormed runFormed runFits actionFormed maskFormed stepFormed stepFits everyBelow cellsOf courseOf stateAt permitted permits chosen isIn has within joined removed only setCell gather someBelow isHopeless isOver foundList cellInside names joinRows readAgainst
 computed = (
   read-row _ _ _ refl refl and
       read-row _ _ _ refl refl and
@@ -217,6 +217,14 @@ computed = (
       list-row _ twoRunsText (acceptedRead twoRuns) _ refl (solve-row twoRuns (32 ∷ []) refl refl answerRoom .allowed)
       (two-runs-text (checked twoRuns) (check-is twoRuns 0 _ refl refl refl) (check-is twoRuns 1 _ refl refl refl)) and
       all,
+  refl and
+      check-row keepsTheGoal 0 _ refl refl refl and
+      refl and
+      check-row givesNothing 0 _ refl refl refl and
+      refl and
+      check-row triesTheNext 0 _ refl refl refl and
+      refl and
+      all,
   solve-row _ _ refl refl and solve-row _ _ refl refl and all,
 )
 
@@ -229,5 +237,8 @@ refusal-files = computed .1
 pub several-runs : AllHold severalRuns
 several-runs = computed .2
 
+pub rejected-steps : AllHold rejectedSteps
+rejected-steps = computed .3
+
 pub source-figures : AllHold figures
-source-figures = computed .3
+source-figures = computed .4

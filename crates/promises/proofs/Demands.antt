@@ -26,8 +26,9 @@ use Rattle.listing.proofs.Determined.{listing-unique}
 use Rattle.listing.proofs.listing.Reads as listing
 use Rattle.runcheck.proofs.Called.{CheckGives, check-gives, check-asks-nothing}
 use Rattle.runcheck.proofs.check_run.Reads as check
-use Rattle.runcheck.proofs.Valid.{checked-zero-valid, valid-checked-zero}
-use Rattle.runcheck.specs.OpenNeeds.{refusedCheck}
+use Rattle.runcheck.proofs.RuleLaws.{old-ruled, new-ruled, zero-same, report-same}
+use Rattle.runcheck.proofs.Valid.{valid-zero, zero-valid, checked-zero-valid, valid-checked-zero}
+use Rattle.runcheck.specs.OpenNeeds.{totalOpen, openReport, refusedCheck, controllerAt}
 use Rattle.runcheck.specs.declared.Checked.{Checked}
 use Rattle.session.proofs.CallLaws.{made-unique, open-malformed, open-not-a-session, edit-malformed, edit-not-a-session, edit-outside, listed-malformed, listed-not-a-session}
 use Rattle.session.proofs.Called.{OpenGives, open-gives, open-asks-nothing, EditGives, edit-gives, edit-asks-nothing, ListGives, list-gives, list-asks-nothing}
@@ -45,6 +46,7 @@ use Rattle.solve.specs.Stuck.{Stuck}
 use Rattle.rows.specs.Tables.{rowAt}
 use Rattle.table.proofs.Called.{FormedGives, formed-gives, formed-asks-nothing}
 use Rattle.table.proofs.Formation.{well-formed}
+use Rattle.table.proofs.JoinLaws.{formed-inside}
 use Rattle.table.proofs.PublishedLaws.{published-first, published-within}
 use Rattle.table.proofs.formed.is_formed.Reads as is-formed
 use Rattle.table.specs.Answer.{Permitted, First, Verdict, Within}
@@ -54,7 +56,7 @@ use Rattle.table.specs.Outcomes.{Outcome, refused, answered}
 use Rattle.table.specs.Published.{WorksPublished}
 use Rattle.table.specs.Repairs.{repaired}
 use Rattle.table.specs.Sizes.{maxFacts}
-use Rattle.table.specs.Strips.{Valid, AllValid}
+use Rattle.table.specs.Strips.{Cells, Course, stateAt, Valid, AllValid}
 use Rattle.table.specs.Tasks.{cellsOf, courseOf, coursesOf, WorksFor, formed, WellFormed, withLimit}
 use Rattle.table.specs.declared.Reply.{Reply}
 use Rattle.table.specs.declared.Task.{Task}
@@ -162,6 +164,16 @@ pub record Solved (t : Task) (room : List ℕ) (o : Outcome) : Type 0 where
       → (r .number ≡ 0) × AllValid (cellsOf (r .task .table)) (coursesOf (r .task)) ×
       ((run : ℕ) → run < r .task .runs .many → (c : Checked) → CheckGives (r .task) run c → c .total ≡ 0)
 
+-- 02, request 3, of the two rules of a run check: the old one, whose states are the model's, and the controller's, which the check follows.
+pub record BothRules (c : Cells) (r : Course) : Type 0 where
+  -- "the total is zero exactly when the run is valid, by the old rule and by the new"
+  pub old-zero : (totalOpen c r (stateAt c r) ≡ 0) ↔ Valid c r
+  pub new-zero : (totalOpen c r (controllerAt c r) ≡ 0) ↔ Valid c r
+  pub each-zero : (totalOpen c r (stateAt c r) ≡ 0) ↔ (totalOpen c r (controllerAt c r) ≡ 0)
+  -- the first step with an open need and its lowest fact are the same by both: only the total moves
+  pub same-step : openReport c r (stateAt c r) .step ≡ openReport c r (controllerAt c r) .step
+  pub same-fact : openReport c r (stateAt c r) .fact ≡ openReport c r (controllerAt c r) .fact
+
 -- "Files and tables match exactly, read and written. Repairs have the published STRIPS meaning: the list given makes the run executable
 -- and reach its goals, no shorter permitted list does, and among equals it is the first in the stated order. On a well-formed table,
 -- before the lent room is looked at, a solve is refused as over the limit exactly when some permitted list works but none within the
@@ -198,6 +210,8 @@ pub record Demand2 : Type 0 where
   -- the check of a run counts nothing exactly if the run is valid
   pub nothing-open : (t : Task) → WellFormed t → (run : ℕ) → run < t .runs .many → (r : Checked) → CheckGives t run r
       → (r .total ≡ 0) ↔ Valid (cellsOf (t .table)) (courseOf (t .runs) run)
+  -- by either rule (02, request 3)
+  pub both-rules : (t : Task) → WellFormed t → (run : ℕ) → run < t .runs .many → BothRules (cellsOf (t .table)) (courseOf (t .runs) run)
   -- 01: "001 permits kind 1 for every fact. Ours leaves out only repairs that do nothing, so least lists are the same", and so is what is
   -- over the limit or hopeless
   pub published-answer : (t : Task) (l : List ℕ) → First (WorksFor t) l ↔ First (WorksPublished (cellsOf (t .table)) (coursesOf t)) l
@@ -303,6 +317,21 @@ given-list t w room o g h =
           (done .0, done .1, λ run there c k. ap (λ (q : Checked). q .total) (check-gives (r .task) run c k) ∙ done .2 run there);
     }
 
+-- Where no need and no goal is at F or above, the two rules are as they should be.
+rules : (c : Cells) (r : Course) → ((a f : ℕ) → c .facts ≤ f → c .needs a f ≡ false) → ((f : ℕ) → c .facts ≤ f → r .goal f ≡ false)
+    → BothRules c r
+rules c r needs goal =
+    let old = old-ruled c r in
+    let new = new-ruled c r in
+    let same = report-same c r (stateAt c r) (controllerAt c r) old new in
+    record {
+      old-zero = (zero-valid c r (stateAt c r) old needs goal, valid-zero c r (stateAt c r) old);
+      new-zero = (zero-valid c r (controllerAt c r) new needs goal, valid-zero c r (controllerAt c r) new);
+      each-zero = (zero-same c r (stateAt c r) (controllerAt c r) old new, zero-same c r (controllerAt c r) (stateAt c r) new old);
+      same-step = ap (λ (x : Checked). x .step) same;
+      same-fact = ap (λ (x : Checked). x .fact) same;
+    }
+
 pub demand-two : Demand2
 demand-two = record {
   read-exactly = read-is-exact;
@@ -324,6 +353,8 @@ demand-two = record {
   nothing-open = λ t w run there r g.
       let e = ap (λ (x : Checked). x .total) (check-gives t run r g) in
       (λ h. checked-zero-valid t run w there (sym e ∙ h), λ v. e ∙ valid-checked-zero t run w there v);
+  both-rules = λ t w run there.
+      rules (cellsOf (t .table)) (courseOf (t .runs) run) (formed-inside t w .needs) (formed-inside t w .goal run there);
   published-answer = λ t. published-first (cellsOf (t .table)) (coursesOf t);
   published-verdict = λ t. published-within (cellsOf (t .table)) (coursesOf t);
 }

@@ -1,6 +1,6 @@
 -- The bench sheet of document 01 as one table: the starred rows, 1 to 11, in the words of the calls' contracts and with the paper's own
 -- numbers, and beside them the run check of their tasks and of row 12's; 01's table of refusals, with 02's 16 and 02's places, by small files; and
--- two runs (02, request 1). The tasks are in table/specs/Bench, the files in taskformat/specs/BenchFiles.
+-- two runs (02, request 1), and steps that can't run (request 3). The tasks are in table/specs/Bench, the files in taskformat/specs/BenchFiles.
 use mathlib.Core.Bool.{false}
 use mathlib.Core.List.{List, [], _∷_}
 use mathlib.Core.Path.{_≡_}
@@ -12,7 +12,7 @@ use Rattle.change.specs.declared.Edit.{Edit}
 use Rattle.text.specs.Ascii.{bytesOf}
 use Rattle.listing.specs.Listing.{ListsInto}
 use Rattle.table.specs.Outcomes.{refused, given}
-use Rattle.runcheck.specs.OpenNeeds.{openNeeds, refusedCheck, checked}
+use Rattle.runcheck.specs.OpenNeeds.{openNeeds, totalOpen, refusedCheck, checked}
 use Rattle.runcheck.specs.declared.Checked.{Checked}
 use Rattle.session.specs.Calls.{Opens, Edits, listed}
 use Rattle.table.specs.declared.TaskReply.{TaskReply}
@@ -22,7 +22,8 @@ use Rattle.table.specs.Bench.{task, listingTask, limited, strayTask, goalsAtSta
 use Rattle.table.specs.Order.{_≼_}
 use Rattle.table.specs.Sizes.{maxLimit}
 use Rattle.table.specs.Worked.{twoRuns}
-use Rattle.table.specs.Tasks.{WorksFor}
+use Rattle.table.specs.Strips.{stateAt}
+use Rattle.table.specs.Tasks.{cellsOf, courseOf, WorksFor}
 use Rattle.table.specs.declared.Reply.{Reply}
 use Rattle.table.specs.declared.Task.{Task}
 use Rattle.taskformat.specs.BenchFiles.{listingFile, withoutEnd, byteAppended, strayStep}
@@ -38,6 +39,8 @@ pub data BenchRow : Type 0 where
   lists : List ℕ → String → BenchRow
   -- the check of a run of a task gives this
   checks : Task → ℕ → Checked → BenchRow
+  -- by the old rule the open needs of a run of a task come to this total
+  old-total : Task → ℕ → ℕ → BenchRow
   -- a solve of a task gives this list, into whatever room is lent that is enough for it (else 11)
   solves : Task → List ℕ → BenchRow
   -- a solve of a task is refused with this number, whatever room is lent
@@ -52,6 +55,7 @@ abbrev pub Stands : BenchRow → Type 0
 Stands (reads file bytes r) = (length file ≡ bytes) × Only (ReadsFile file) r
 Stands (lists file text) = (room : List ℕ) → Only (ListsInto file room) (given (bytesOf text) room)
 Stands (checks t run c) = Only (λ (r : Checked). r ≡ checked t run) c
+Stands (old-total t run n) = totalOpen (cellsOf (t .table)) (courseOf (t .runs) run) (stateAt (cellsOf (t .table)) (courseOf (t .runs) run)) ≡ n
 Stands (solves t l) = (room : List ℕ) → Only (Solves t room) (given l room)
 Stands (refuses t n) = (room : List ℕ) → Only (Solves t room) (refused n room)
 Stands (works-later t m l) = WorksFor t m × (m ≼ l → ⊥)
@@ -76,7 +80,7 @@ untouched = 2
 
 -- What the program prints for the file of "The listing", and for one with a byte too many.
 abbrev pub listingText : String
-listingText = "task 4 3 3 3\nopen 2 3 1\nset 2\ndrop-delete 1 1\nadd-effect 0 2\nend\n"
+listingText = "task 4 3 3 3\nopen 3 3 1\nset 2\ndrop-delete 1 1\nadd-effect 0 2\nend\n"
 
 abbrev pub refusedText : String
 refusedText = "refused 8 36\n"
@@ -91,9 +95,9 @@ abbrev pub sheet : List BenchRow
 sheet =
     -- 1. Empty input: 1 at 0.
     reads [] 0 (refusedRead 1 0) ∷
-    -- 2. The file above: 36 bytes, list 97, 224.
+    -- 2. The file above: 36 bytes, list 97, 224; `open 3 3 1` (02, request 3).
     reads listingFile 36 (acceptedRead listingTask) ∷
-    checks listingTask 0 (openNeeds 2 3 1) ∷
+    checks listingTask 0 (openNeeds 3 3 1) ∷
     solves listingTask (97 ∷ 224 ∷ []) ∷
     lists listingFile listingText ∷
     -- 3. The same, L = 1: 10. L = 2: list 97, 224.
@@ -195,6 +199,34 @@ severalRuns =
     -- "The answer is the first shortest list that makes all runs valid": 0, row 7's, does not
     solves twoRuns (32 ∷ []) ∷
     lists twoRunsFile twoRunsText ∷ []
+
+-- ---- steps that can't run (02, request 3): what the check gives, and the old rule's total beside it
+
+-- One action that needs 0 and deletes 1, one step, start and goal 1.
+abbrev pub keepsTheGoal : Task
+keepsTheGoal = task 2 1 maxLimit (0b01 ∷ []) [] (0b10 ∷ []) 0b10 0b10 (0 ∷ [])
+
+-- Action 0 needs 0 and adds 1, action 1 needs 1; steps 0, 1, empty start, no goal.
+abbrev pub givesNothing : Task
+givesNothing = task 2 2 maxLimit (0b01 ∷ 0b10 ∷ []) (0b10 ∷ []) [] 0 0 (0 ∷ 1 ∷ [])
+
+-- Action 0 needs 0 and adds 1, action 1 adds 0; steps 0, 1, 0, empty start, goal 1.
+abbrev pub triesTheNext : Task
+triesTheNext = task 2 2 maxLimit (0b01 ∷ []) (0b10 ∷ 0b01 ∷ []) [] 0 0b10 (0 ∷ 1 ∷ 0 ∷ [])
+
+abbrev pub rejectedSteps : List BenchRow
+rejectedSteps =
+    -- case 2: "the row store no longer gives its goal"
+    old-total listingTask 0 2 ∷
+    -- A step that can't run deletes nothing: the goal is there.
+    checks keepsTheGoal 0 (openNeeds 1 1 0) ∷
+    old-total keepsTheGoal 0 2 ∷
+    -- It adds nothing: what it would have given is absent at the next step.
+    checks givesNothing 0 (openNeeds 2 1 0) ∷
+    old-total givesNothing 0 1 ∷
+    -- The next is tried, and a step that may run takes its effects, so that the first can run when its turn comes again.
+    checks triesTheNext 0 (openNeeds 1 1 0) ∷
+    old-total triesTheNext 0 1 ∷ []
 
 -- ---- the sources' own examples, facts and actions numbered in reading order
 

@@ -133,6 +133,12 @@ module _ (c : Cells) (r : Course) (states : States) where
 
 -- ---- the same for a run of a task: masks for sets
 
+count-zero : (m : ℕ) → eqb (count m) 0 ≡ eqb m 0
+count-zero m =
+    by-order 0 m (λ h. ne-eqb (count m) 0 (λ e. absurd (omega (arith, count-none m e))) ∙ sym (ne-eqb m 0 (λ e. omega arith))) (λ h.
+    let e : m ≡ 0 = omega arith in
+    ap (λ (n : ℕ). eqb (count n) 0) e ∙ ap (λ (n : ℕ). eqb n 0) count-empty ∙ ap (λ (n : ℕ). eqb n 0) (sym e))
+
 abbrev pub tallyOf : Task → ℕ → States → ℕ → Tally
 tallyOf t run = tallyAt (cellsOf (t .table)) (courseOf (t .runs) run)
 
@@ -146,20 +152,39 @@ tallyOf-le t w run states i = tally-le (cellsOf (t .table)) (courseOf (t .runs) 
 
 module _ (t : Task) (w : WellFormed t) (run : ℕ) (states : States) (i state : ℕ) (is-state : IsState states i state) where
   -- the mask m has what step i wants, or the goals, and "no set has a fact at or above F"
-  wanted-next : (m : ℕ) → ((f : ℕ) → t .table .facts ≤ f → has m f ≡ false)
-      → ((f : ℕ) → has m f ≡ cond (ltb i (countOf (t .runs) run)) (has (maskOf (t .table) dropNeed (stepOf (t .runs) run i)) f) (has (goalOf (t .runs) run) f))
-      → noted (tallyOf t run states i) (removed m state) (i + 1) ≡ tallyOf t run states (i + 1)
-  unfolding isOpen cellsOf courseOf
-  wanted-next m inside wanted =
-      tally-next (cellsOf (t .table)) (courseOf (t .runs) run) states i (removed m state) (w .facts-high)
-      (removed-lt (t .table .facts) m state (within-lt m (t .table .facts) (has-within m (t .table .facts) inside)))
-      (λ f. has-removed m state f ∙ (λ j. wanted f j && not (is-state f j)))
+  module _ (m : ℕ) (inside : (f : ℕ) → t .table .facts ≤ f → has m f ≡ false)
+      (wanted : (f : ℕ) → has m f ≡ cond (ltb i (countOf (t .runs) run)) (has (maskOf (t .table) dropNeed (stepOf (t .runs) run i)) f) (has (goalOf (t .runs) run) f)) where
+    small : removed m state < 2 ^ (t .table .facts)
+    small = removed-lt (t .table .facts) m state (within-lt m (t .table .facts) (has-within m (t .table .facts) inside))
 
-  pub needs-next : i < countOf (t .runs) run
-      → noted (tallyOf t run states i) (removed (getD (t .table .needs) (stepOf (t .runs) run i) 0) state) (i + 1) ≡ tallyOf t run states (i + 1)
-  needs-next h =
-      wanted-next (getD (t .table .needs) (stepOf (t .runs) run i) 0) (w .inside dropNeed (stepOf (t .runs) run i))
-      (λ f. rw (lt-ltb i (countOf (t .runs) run) h))
+    same : (f : ℕ) → has (removed m state) f ≡ isOpen (cellsOf (t .table)) (courseOf (t .runs) run) states i f
+    unfolding isOpen cellsOf courseOf
+    same f = has-removed m state f ∙ (λ j. wanted f j && not (is-state f j))
+
+    wanted-next : noted (tallyOf t run states i) (removed m state) (i + 1) ≡ tallyOf t run states (i + 1)
+    unfolding cellsOf
+    wanted-next = tally-next (cellsOf (t .table)) (courseOf (t .runs) run) states i (removed m state) (w .facts-high) small same
+
+    wanted-count : openAt (cellsOf (t .table)) (courseOf (t .runs) run) states i ≡ count (removed m state)
+    unfolding cellsOf
+    wanted-count = open-count (cellsOf (t .table)) (courseOf (t .runs) run) states i (removed m state) (w .facts-high) small same
+
+  module _ (h : i < countOf (t .runs) run) where
+    abbrev needed : ℕ
+    needed = getD (t .table .needs) (stepOf (t .runs) run i) 0
+
+    wanted-needed : (f : ℕ) → has needed f ≡ cond (ltb i (countOf (t .runs) run)) (has needed f) (has (goalOf (t .runs) run) f)
+    wanted-needed f = rw (lt-ltb i (countOf (t .runs) run) h)
+
+    pub needs-next : noted (tallyOf t run states i) (removed needed state) (i + 1) ≡ tallyOf t run states (i + 1)
+    needs-next = wanted-next needed (w .inside dropNeed (stepOf (t .runs) run i)) wanted-needed
+
+    -- the step has nothing open exactly if its mask is empty
+    pub needs-none : eqb (removed needed state) 0 ≡ eqb (openAt (cellsOf (t .table)) (courseOf (t .runs) run) states i) 0
+    needs-none =
+        let absent = removed needed state in
+        let counted = wanted-count needed (w .inside dropNeed (stepOf (t .runs) run i)) wanted-needed in
+        sym (ap (λ (n : ℕ). eqb n 0) counted ∙ count-zero absent)
 
   pub goals-next : i ≡ countOf (t .runs) run
       → noted (tallyOf t run states i) (removed (goalOf (t .runs) run) state) (countOf (t .runs) run + 1) ≡

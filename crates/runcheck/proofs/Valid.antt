@@ -1,62 +1,22 @@
--- The total of open needs is 0 exactly if the run is valid (01, "The run check" and "The model and its run"), for each run of any well-formed
--- task.
--- Assumes nothing.
-use mathlib.Core.Bool.{Bool, true, false, not, _&&_, true≢false}
-use mathlib.Core.Path.{_≡_, refl, sym, ap, _∙_}
-use Prim.Native.Nat.{ℕ, _+_, _<_, _≤_}
+-- The total of open needs is 0 exactly if the run is valid (01, "The run check" and "The model and its run"), by the old rule and by the
+-- controller's (02, request 3); and so for each run of any well-formed task. Assumes nothing.
+use mathlib.Core.Bool.{false}
+use mathlib.Core.Path.{_≡_, sym, ap, _∙_}
+use Prim.Native.Nat.{ℕ, _<_, _≤_}
 use native.Mathlib.Nat.{le-refl, le-of-lt}
 use native.Mathlib.Omega.{arith}
-use borrow.Author.Tests.{lt-ltb, le-ltb}
 use Rattle.table.specs.Strips.{Cells, Course, Valid, stateAt}
 use Rattle.table.specs.Tasks.{WellFormed, cellsOf, courseOf}
 use Rattle.table.specs.declared.Task.{Task}
 use Rattle.table.proofs.FlagLaws.{by-order}
-use Rattle.table.proofs.CountingLaws.{sumBelow-zero, zero-sumBelow, countBelow-zero, zero-countBelow}
 use Rattle.table.proofs.Formation.{well-formed}
 use Rattle.table.proofs.JoinLaws.{formed-inside}
-use Rattle.runcheck.specs.OpenNeeds.{States, isOpen, openAt, totalOpen, checked}
+use Rattle.runcheck.specs.OpenNeeds.{States, isOpen, totalOpen, controllerAt, checked}
+use Rattle.runcheck.proofs.OpenLaws.{present, not-open, total-open, open-total, open-step, open-goal}
+use Rattle.runcheck.proofs.RuleLaws.{Ruled, old-ruled, new-ruled, zero-same}
 use Rattle.runcheck.proofs.StateLaws.{checked-total}
 
--- ---- for any table, run and states: nothing is open
-
-present : (a b : Bool) → (a && not b) ≡ false → a ≡ true → b ≡ true
-present true true e h = refl
-present true false e h = sym e
-present false b e h = absurd (true≢false (sym h))
-
-not-open : (a b : Bool) → (a ≡ true → b ≡ true) → (a && not b) ≡ false
-not-open true b grows = rw (grows refl)
-not-open false b grows = refl
-
-module _ (c : Cells) (r : Course) (states : States) where
-  total-none : totalOpen c r states ≡ 0 → (i f : ℕ) → i ≤ r .count → f < c .facts → isOpen c r states i f ≡ false
-  unfolding totalOpen openAt
-  total-none e i f h l =
-      countBelow-zero (isOpen c r states i) (c .facts) (sumBelow-zero (openAt c r states) (r .count + 1) e i (omega arith)) f l
-
-  -- where no need and no goal is at F or above, no fact is open at all
-  pub total-open : ((a f : ℕ) → c .facts ≤ f → c .needs a f ≡ false) → ((f : ℕ) → c .facts ≤ f → r .goal f ≡ false)
-      → totalOpen c r states ≡ 0 → (i f : ℕ) → i ≤ r .count → isOpen c r states i f ≡ false
-  unfolding isOpen
-  total-open needs goal e i f h =
-      by-order f (c .facts) (total-none e i f h) (λ l.
-      by-order i (r .count) (λ k. rw (lt-ltb i (r .count) k, needs (r .step i) f l)) (λ k. rw (le-ltb i (r .count) k, goal f l)))
-
-  pub open-total : ((i f : ℕ) → i ≤ r .count → isOpen c r states i f ≡ false) → totalOpen c r states ≡ 0
-  unfolding totalOpen openAt
-  open-total none =
-      zero-sumBelow (openAt c r states) (r .count + 1) (λ i h. zero-countBelow (isOpen c r states i) (c .facts) (λ f l. none i f (omega arith)))
-
-  -- what is open at a step, and at the end
-  pub open-step : (i f : ℕ) → i < r .count → isOpen c r states i f ≡ (c .needs (r .step i) f && not (states i f))
-  unfolding isOpen
-  open-step i f h = rw (lt-ltb i (r .count) h)
-
-  pub open-goal : (f : ℕ) → isOpen c r states (r .count) f ≡ (r .goal f && not (states (r .count) f))
-  unfolding isOpen
-  open-goal f = rw (le-ltb (r .count) (r .count) (le-refl (r .count)))
-
--- ---- in the states of the run, that is: the run is valid
+-- ---- in the old rule's states, the model's
 
 module _ (c : Cells) (r : Course) where
   abbrev states : States
@@ -80,19 +40,32 @@ module _ (c : Cells) (r : Course) where
         reaches = λ f. present (r .goal f) (states (r .count) f) (sym (open-goal c r states f) ∙ none (r .count) f (le-refl (r .count)));
       }
 
+  -- ---- and so by any rule
+
+  module _ (rule : States) (ruled : Ruled c r rule) where
+    pub valid-zero : Valid c r → totalOpen c r rule ≡ 0
+    valid-zero v = zero-same c r states rule (old-ruled c r) ruled (valid-total v)
+
+    pub zero-valid : ((a f : ℕ) → c .facts ≤ f → c .needs a f ≡ false) → ((f : ℕ) → c .facts ≤ f → r .goal f ≡ false)
+        → totalOpen c r rule ≡ 0 → Valid c r
+    zero-valid needs goal e = total-valid needs goal (zero-same c r rule states ruled (old-ruled c r) e)
+
 -- ---- for a run of a task
 
 module _ (t : Task) (run : ℕ) where
-  abbrev pub ValidRun : Type 0
-  ValidRun = Valid (cellsOf (t .table)) (courseOf (t .runs) run)
+  abbrev c : Cells
+  c = cellsOf (t .table)
+
+  abbrev r : Course
+  r = courseOf (t .runs) run
 
   -- of a well-formed task the call's total is 0 exactly if the run is valid
-  pub checked-zero-valid : WellFormed t → run < t .runs .many → checked t run .total ≡ 0 → ValidRun
+  pub checked-zero-valid : WellFormed t → run < t .runs .many → checked t run .total ≡ 0 → Valid c r
   checked-zero-valid w there e =
       let inside = formed-inside t w in
-      total-valid (cellsOf (t .table)) (courseOf (t .runs) run) (inside .needs) (inside .goal run there)
+      zero-valid c r (controllerAt c r) (new-ruled c r) (inside .needs) (inside .goal run there)
       (sym (checked-total t run (well-formed t w) there) ∙ e)
 
-  pub valid-checked-zero : WellFormed t → run < t .runs .many → ValidRun → checked t run .total ≡ 0
+  pub valid-checked-zero : WellFormed t → run < t .runs .many → Valid c r → checked t run .total ≡ 0
   valid-checked-zero w there v =
-      checked-total t run (well-formed t w) there ∙ valid-total (cellsOf (t .table)) (courseOf (t .runs) run) v
+      checked-total t run (well-formed t w) there ∙ valid-zero c r (controllerAt c r) (new-ruled c r) v

@@ -1,13 +1,13 @@
--- Open needs: document 01, "The run check"; 02, request 1: "a run check names its run". "It takes the steps in order. Step i, counted from 1, has as open needs the
--- needs of its action that are absent; its effects are applied all the same. Goals absent at the end are open needs of
--- step n+1." Here step i counts from 0, so the goals are those of step n. What is present before step i is `states i`, for any
--- states whatever; which they are, `checked` says.
-use mathlib.Core.Bool.{Bool, cond, not, _&&_}
-use Prim.Native.Nat.{ℕ, _+_}
+-- Open needs: document 01, "The run check"; 02, request 1: "a run check names its run"; 02, request 3: "a step that can't run does
+-- nothing". "It takes the steps in order. Step i, counted from 1, has as open needs the needs of its action that are absent. Goals absent at
+-- the end are open needs of step n+1." Here step i counts from 0, so the goals are those of step n. What is present before step i is
+-- `states i`, for any states whatever. There are two rules for them: what is open is said once, for both.
+use mathlib.Core.Bool.{Bool, cond, not, _&&_, _||_}
+use Prim.Native.Nat.{ℕ, zero, suc, _+_}
 use lib.Dec.{eqb, ltb}
-use Rattle.table.specs.Counting.{sumBelow, countBelow, firstWhere}
+use Rattle.table.specs.Counting.{everyBelow, sumBelow, countBelow, firstWhere}
 use Rattle.table.specs.Refusals.{accepted, notWellFormed, notThere}
-use Rattle.table.specs.Strips.{Cells, Course, stateAt}
+use Rattle.table.specs.Strips.{Cells, Course, afterStep}
 use Rattle.table.specs.Tasks.{cellsOf, courseOf, formed}
 use Rattle.table.specs.declared.Task.{Task}
 use Rattle.runcheck.specs.declared.Checked.{Checked}
@@ -49,9 +49,26 @@ openReport c r states =
     (openNeeds 0 0 0)
     (openNeeds (totalOpen c r states) (firstOpen c r states + 1) (lowestOpen c r states))
 
--- The states of the run check of a run: "its effects are applied all the same".
+-- ---- the two rules: what is present before each step
+--
+-- The old rule, 01's: of a step that can't run the "effects are applied all the same". Its states are those of the model, `stateAt`
+-- (table/specs/Strips), which say what a valid run is, and what a repair is for; there nothing changes. The new rule is the controller's.
+
+-- "An action may run in a state that holds all its needs."
+unfoldable pub mayRun : Cells → ℕ → (ℕ → Bool) → Bool
+mayRun c a state = everyBelow (λ f. not (c .needs a f) || state f) (c .facts)
+
+-- The controller's state after the first i steps: it "rejects the step, keeps the state and tries the next" (02, request 3).
+unfoldable pub controllerAt : Cells → Course → States
+controllerAt c r zero f = r .start f
+controllerAt c r (suc i) f =
+    cond (mayRun c (r .step i) (controllerAt c r i))
+    (afterStep (controllerAt c r i) (c .adds (r .step i)) (c .deletes (r .step i)) f)
+    (controllerAt c r i f)
+
+-- The states of the run check of a run: "The check follows the controller."
 abbrev pub statesOf : Task → ℕ → States
-statesOf t run = stateAt (cellsOf (t .table)) (courseOf (t .runs) run)
+statesOf t run = controllerAt (cellsOf (t .table)) (courseOf (t .runs) run)
 
 -- 12 for a task that is not well formed; then "14 covers a run that isn't there" (02, request 1).
 unfoldable pub checked : Task → ℕ → Checked

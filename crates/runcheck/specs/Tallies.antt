@@ -9,9 +9,10 @@ use Rattle.table.specs.Strips.{Cells, Course}
 use Rattle.runcheck.specs.OpenNeeds.{States, isOpen, openAt}
 use Rattle.runcheck.specs.declared.Tally.{Tally}
 
--- "Afterwards the state is (state without deletes) joined with adds", of masks.
-abbrev pub stepped : ℕ → ℕ → ℕ → ℕ
-stepped state adds deletes = joined (removed state deletes) adds
+-- "Afterwards the state is (state without deletes) joined with adds", of masks; a step whose open needs are the mask `absent` keeps it, if
+-- it has any.
+abbrev pub stepped : ℕ → ℕ → ℕ → ℕ → ℕ
+stepped state absent adds deletes = cond (eqb absent 0) (joined (removed state deletes) adds) state
 
 -- Nothing is open yet.
 abbrev pub nothing : Tally

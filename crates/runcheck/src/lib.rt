@@ -1,4 +1,4 @@
-// The run check (document 01, "The run check"; 02, request 1: it names its run).
+// The run check (document 01, "The run check"; 02, request 1: it names its run; request 3: it follows the controller).
 use table::STEPS;
 use table::Task;
 use table::refusals;
@@ -44,15 +44,19 @@ fn note(tally: Tally, absent: u64, step: usize) -> Tally
     }
 }
 
-// "Afterwards the state is (state without deletes) joined with adds": add wins.
-fn after_step(state: u64, adds: u64, deletes: u64) -> u64
-    ensures { λ r. ⌜ r ≡ stepped state adds deletes ⌝ }
+// "Afterwards the state is (state without deletes) joined with adds": add wins. The controller rejects a step with open needs
+// and keeps the state.
+fn after_step(state: u64, absent: u64, adds: u64, deletes: u64) -> u64
+    ensures { λ r. ⌜ r ≡ stepped state absent adds deletes ⌝ }
 {
+    if absent != 0 {
+        return state;
+    }
     facts::join(facts::remove(state, deletes), adds)
 }
 
-// The steps in order, each with its needs that are absent, "its effects are applied all the same"; then the goals, as
-// the needs of one step more.
+// The steps in order, each with its needs that are absent in the controller's state; then the goals, as the needs of one step
+// more.
 fn tally_run(t: Task, run: usize) -> Tally
     requires { ⌜ WellFormed t × (run < t .runs .many) ⌝ }
     ensures { λ r. ⌜ r ≡ tallyAt (cellsOf (t .table)) (courseOf (t .runs) run) (statesOf t run) (countOf (t .runs) run + 1) ⌝ }
@@ -71,8 +75,9 @@ fn tally_run(t: Task, run: usize) -> Tally
     };
     for i in 0..count {
         let a = runs.steps[first + i] as usize;
-        tally = note(tally, facts::remove(needs[a], state), i + 1);
-        state = after_step(state, adds[a], deletes[a]);
+        let absent = facts::remove(needs[a], state);
+        tally = note(tally, absent, i + 1);
+        state = after_step(state, absent, adds[a], deletes[a]);
     }
     let goals = t.runs.goals;
     note(tally, facts::remove(goals[run], state), count + 1)

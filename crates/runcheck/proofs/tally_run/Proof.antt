@@ -4,12 +4,13 @@ use mathlib.Core.Path.{_≡_, sym, ap, _∙_}
 use Prim.Native.Nat.{ℕ, _+_, _-_, _*_, _<_, _≤_}
 use borrow.Author.Needs.{needs}
 use native.Mathlib.Omega.{arith}
+use lib.ListN.{getD}
 use Rattle.facts.specs.Sets.{has}
 use Rattle.table.specs.Sizes.{maxFacts, maxActions, maxRuns, maxSteps}
 use Rattle.table.specs.Tasks.{cellsOf, countOf, stepOf, courseOf}
 use Rattle.table.proofs.Formation.{step-lt}
 use Rattle.runcheck.specs.OpenNeeds.{statesOf}
-use Rattle.runcheck.specs.Tallies.{noted}
+use Rattle.runcheck.specs.Tallies.{noted, stepped}
 use Rattle.runcheck.specs.declared.Tally.{Tally}
 use Rattle.runcheck.proofs.StateLaws.{state-first, state-next}
 use Rattle.runcheck.proofs.TallyLaws.{tallyOf, IsState, tally-start, tallyOf-le, needs-next, goals-next}
@@ -128,9 +129,13 @@ loop-again c =
     let d = head note in
     let t = start d .args .t in
     let run = start d .args .run in
-    let i = d .loop .i in (
+    let i = d .loop .i in
+    let adds = getD (t .table .adds) (stepOf (t .runs) run i) 0 in
+    let deletes = getD (t .table .deletes) (stepOf (t .runs) run i) 0 in (
       omega arith,
-      λ f. ap (λ (m : ℕ). has m f) (c .after-step .ensures) ∙ state-next t run i (d .loop .state) (d .loop .inv .1) f,
+      λ f.
+          ap (λ (m : ℕ). has m f) (c .after-step .ensures ∙ ap (λ (m : ℕ). stepped (d .loop .state) m adds deletes) (remove .remove .ensures)) ∙
+          state-next t (start d .pre .0) run i (d .loop .state) (omega arith) (d .loop .inv .1) f,
       note .note .ensures ∙ (λ j. noted (d .loop .inv .2 j) (remove .remove .ensures j) (i + 1)) ∙
           needs-next t (start d .pre .0) run (statesOf t run) i (d .loop .state) (d .loop .inv .1) (remove .before .before .loop-test .taken),
     )
