@@ -45,7 +45,7 @@ pub fn conflict_of(task: &Task, candidate: &[u16]) -> Option<Conflict> {
 }
 
 /// Algorithm 2: the conflict of the first step of a run (the goal last), and its lowest fact, that fails; none if the
-/// run is valid.
+/// run is valid. Every step before it ran, so that a step that can't run (02, request 3) is of no matter here.
 fn conflict_in(run: &Run, table: &[Action]) -> Option<Conflict> {
     let mut state = run.start;
     for (step, action) in run.actions(table).enumerate() {

@@ -1,5 +1,7 @@
 //! Tests of the reference: the bench sheet of document 01, row by row, several runs (02, request 1), which byte is
-//! wrong (02, request 2), and what 01 and 02 say of all tasks.
+//! wrong (02, request 2), a step that can't run (02, request 3), and what 01 and 02 say of all tasks.
+
+use std::cmp::Ordering;
 
 use crate::algorithm1;
 use crate::answer::{answer, Budget};
@@ -9,9 +11,9 @@ use crate::listing::listing;
 use crate::random::Random;
 use crate::refusal::{at, plain, Ground, Refusal, Stop};
 use crate::repair::{apply, Repair};
-use crate::run::{absent, all_valid, check, valid, Open};
+use crate::run::{absent, all_valid, check, open_needs, open_needs_by_old_rule, valid, Open};
 use crate::session::{edit, in_form, joined_answer, list, open, row, Cell, Edit, ROW, TABLE};
-use crate::task::{only, Run, Task, MOST_FACTS, MOST_RUNS};
+use crate::task::{only, Action, Facts, Run, Task, MOST_FACTS, MOST_RUNS};
 
 /// The file of 01's listing, case 2.
 const CASE_2: [u8; 36] =
@@ -47,7 +49,7 @@ fn row_1_empty_input() {
 fn row_2_the_file_of_the_listing() {
     assert_eq!(solved(&case_2()), Ok(vec![97, 224]));
     assert_eq!(file_of(&case_2()), CASE_2);
-    let text = "task 4 3 3 3\nopen 2 3 1\nset 2\ndrop-delete 1 1\nadd-effect 0 2\nend\n";
+    let text = "task 4 3 3 3\nopen 3 3 1\nset 2\ndrop-delete 1 1\nadd-effect 0 2\nend\n";
     assert_eq!(listing(&CASE_2, Budget::of(ENOUGH)).unwrap(), text);
 }
 
@@ -261,14 +263,50 @@ fn two_runs() -> Task {
 #[test]
 fn a_run_check_names_its_run() {
     let mut task = two_runs();
-    assert_eq!(check(&task, 0), Ok(Open { total: 2, step: 3, fact: 1 }));
+    assert_eq!(check(&task, 0), Ok(Open { total: 3, step: 3, fact: 1 }));
     assert_eq!(check(&task, 1), Ok(Open::default()));
     task.last_run().start = 0b0010;
-    assert_eq!(check(&task, 1), Ok(Open { total: 1, step: 1, fact: 2 }));
+    assert_eq!(check(&task, 1), Ok(Open { total: 2, step: 1, fact: 2 }));
     for beyond in [2, 8, u64::MAX] {
         assert_eq!(check(&task, beyond), Err(plain(Ground::NotThere)));
         assert_eq!(check(&Task { facts: 0, ..task }, beyond), Err(plain(Ground::NotWellFormed)), "12 before 14");
     }
+}
+
+/// The run from this start to this goal by these steps.
+fn run_of(start: Facts, goal: Facts, steps: &[usize]) -> Run {
+    let mut run = Run { start, goal, ..Run::empty() };
+    steps.iter().for_each(|&action| run.push_step(action));
+    run
+}
+
+/// The totals by the new rule and by the old.
+fn totals(run: &Run, table: &[Action]) -> [u64; 2] {
+    [open_needs(run, table).total, open_needs_by_old_rule(run, table).total]
+}
+
+/// One action that lacks fact 0: what it would have added stays absent, what it would have deleted stays present.
+#[test]
+fn the_new_total_is_greater_or_smaller_than_the_old() {
+    assert_eq!(totals(&case_2().runs[0], &case_2().table), [3, 2], "the row store no longer gives its goal");
+    let gives = Action { needs: 0b001, adds: 0b010, deletes: 0 };
+    assert_eq!(totals(&run_of(0, 0b010, &[0]), &[gives]), [2, 1], "goal 1 is no longer given");
+    let takes = Action { needs: 0b001, adds: 0, deletes: 0b100 };
+    assert_eq!(totals(&run_of(0b100, 0b100, &[0]), &[takes]), [1, 2], "goal 2 is no longer taken away");
+    let swaps = Action { needs: 0b001, adds: 0b010, deletes: 0b100 };
+    assert_eq!(totals(&run_of(0b100, 0b110, &[0]), &[swaps]), [2, 2], "goal 1 is open instead of goal 2");
+}
+
+/// "The controller rejects the step, keeps the state and tries the next."
+#[test]
+fn the_step_after_a_rejected_one_is_tried() {
+    let lacking = Action { needs: 0b001, adds: 0b010, deletes: 0 };
+    let free = Action { needs: 0, adds: 0b101, deletes: 0 };
+    let both = Action { needs: 0b110, adds: 0, deletes: 0 };
+    let table = [lacking, free, both];
+    assert_eq!(totals(&run_of(0, 0, &[0, 1, 2]), &table), [2, 1], "step 3 has fact 2 of step 2, and lacks fact 1");
+    assert_eq!(totals(&run_of(0, 0, &[0, 0, 2]), &table), [4, 3], "each step's own needs are counted");
+    assert_eq!(totals(&run_of(0, 0b010, &[0, 1, 0]), &table), [1, 1], "an action rejected once may run later");
 }
 
 #[test]
@@ -277,7 +315,7 @@ fn the_answer_makes_all_runs_valid() {
     assert_eq!(solved(&task), Ok(vec![97, 224]));
     task.last_run().start = 0b0010;
     assert_eq!(solved(&task), Ok(vec![97, 258]), "a need dropped serves both, an effect of action 0 only the first");
-    let text = "task 4 3 3 4\nopen 2 3 1\nopen 1 1 2\nset 2\ndrop-delete 1 1\ndrop-need 2 2\nend\n";
+    let text = "task 4 3 3 4\nopen 3 3 1\nopen 2 1 2\nset 2\ndrop-delete 1 1\ndrop-need 2 2\nend\n";
     assert_eq!(listing(&file_of(&task), Budget::of(ENOUGH)).unwrap(), text);
 }
 
@@ -288,7 +326,7 @@ fn one_run_without_steps_that_lacks_a_goal_makes_it_hopeless() {
     assert_eq!(solved(&task), Ok(vec![97, 224]));
     task.last_run().goal = 0b0100;
     assert_eq!(solved(&task), refused(plain(Ground::NoListAtAll)));
-    let text = "task 4 3 3 4\nopen 2 3 1\nopen 0 0 0\nopen 1 1 2\nrefused 9 0\n";
+    let text = "task 4 3 3 4\nopen 3 3 1\nopen 0 0 0\nopen 1 1 2\nrefused 9 0\n";
     assert_eq!(listing(&file_of(&task), Budget::of(ENOUGH)).unwrap(), text);
     task.last_run().start = 0b0100;
     assert_eq!(solved(&task), Ok(vec![97, 224]));
@@ -352,13 +390,61 @@ fn every_random_task_is_well_formed_and_its_file_is_read_back() {
     }
 }
 
+/// What 02, request 3 has of both rules: the total is zero exactly if the run is valid, the first step and its lowest
+/// fact are the same. Gives how the new total compares with the old one.
+fn both_rules_judge_alike(run: &Run, table: &[Action]) -> Ordering {
+    let (new, old) = (open_needs(run, table), open_needs_by_old_rule(run, table));
+    assert_eq!(new.total == 0, valid(run, table), "the new rule: {run:?} {table:?}");
+    assert_eq!(old.total == 0, valid(run, table), "the old rule: {run:?} {table:?}");
+    assert_eq!((new.step, new.fact), (old.step, old.fact), "{run:?} {table:?}");
+    new.total.cmp(&old.total)
+}
+
+/// The total does move, both ways.
+fn assert_all_orders(met: &[Ordering]) {
+    for order in [Ordering::Less, Ordering::Equal, Ordering::Greater] {
+        assert!(met.contains(&order), "no new total is {order:?}");
+    }
+}
+
 #[test]
-fn the_total_is_zero_exactly_if_the_run_is_valid() {
+fn both_rules_judge_alike_on_random_runs() {
+    let [mut of_first_runs, mut of_further_runs] = [Vec::new(), Vec::new()];
     for task in random_tasks(2000) {
         for (index, run) in task.known_runs().iter().enumerate() {
-            assert_eq!(check(&task, index as u64).unwrap().total == 0, valid(run, &task.table));
+            let met = if index == 0 { &mut of_first_runs } else { &mut of_further_runs };
+            met.push(both_rules_judge_alike(run, &task.table));
+            assert_eq!(check(&task, index as u64), Ok(open_needs(run, &task.table)));
         }
+        let none_open = |rule: fn(&Run, &[Action]) -> Open| {
+            task.known_runs().iter().all(|run| rule(run, &task.table) == Open::default())
+        };
+        assert_eq!(none_open(open_needs), all_valid(&task));
+        assert_eq!(none_open(open_needs_by_old_rule), all_valid(&task));
     }
+    assert_all_orders(&of_first_runs);
+    assert_all_orders(&of_further_runs);
+}
+
+/// All lists of up to three steps by two actions.
+fn short_step_lists() -> Vec<Vec<usize>> {
+    let of_length = |count: usize| (0..1 << count).map(move |code| (0..count).map(|step| code >> step & 1).collect());
+    (0..=3).flat_map(of_length).collect()
+}
+
+/// Every table of two actions over two facts, with every start, goal and list of up to three steps.
+#[test]
+fn both_rules_judge_alike_on_all_small_runs() {
+    let step_lists = short_step_lists();
+    let mut met = Vec::new();
+    for code in 0..1 << 16 {
+        let set = |place: usize| code >> (2 * place) & 0b11;
+        let table = [0, 3].map(|place| Action { needs: set(place), adds: set(place + 1), deletes: set(place + 2) });
+        let judge = |steps: &Vec<usize>| both_rules_judge_alike(&run_of(set(6), set(7), steps), &table);
+        met.extend(step_lists.iter().map(judge));
+    }
+    assert_eq!(met.len(), 65536 * 15);
+    assert_all_orders(&met);
 }
 
 #[test]

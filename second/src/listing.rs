@@ -1,10 +1,10 @@
-//! The text that the program prints for its input ("The listing"; 02, request 1).
+//! The text that the program prints for its input ("The listing"; 02, requests 1 and 3).
 
 use crate::answer::Budget;
 use crate::file::read;
 use crate::refusal::{Refusal, Stop};
 use crate::repair::{Kind, Repair};
-use crate::run::open_needs;
+use crate::run::{open_needs, Open};
 use crate::task::Task;
 
 /// "The program's buffer becomes 24,000 bytes."
@@ -36,8 +36,11 @@ fn task_line(task: &Task) -> String {
 
 /// "One open line per run, in order."
 fn open_lines(task: &Task) -> String {
-    let opens = task.known_runs().iter().map(|run| open_needs(run, &task.table));
-    opens.map(|open| format!("open {} {} {}\n", open.total, open.step, open.fact)).collect()
+    task.known_runs().iter().map(|run| open_line(&open_needs(run, &task.table))).collect()
+}
+
+pub fn open_line(open: &Open) -> String {
+    format!("open {} {} {}\n", open.total, open.step, open.fact)
 }
 
 /// The listing of an input, solved by the definition of the answer.

@@ -1,4 +1,4 @@
-//! The runs of a task: what a step does, whether a run is valid, and the run check ("The run check").
+//! The runs of a task: what a step does, whether a run is valid, and the run check ("The run check"; 02, request 3).
 
 use crate::refusal::{plain, Ground, Refusal};
 use crate::task::{Action, Facts, Run, Task};
@@ -48,25 +48,52 @@ pub fn check(task: &Task, run: u64) -> Result<Open, Refusal> {
     Ok(open_needs(&task.runs[run as usize], &task.table))
 }
 
-/// The open needs of a run of a well-formed task.
+/// The open needs of a run of a well-formed task, in the states that the controller has.
 pub fn open_needs(run: &Run, table: &[Action]) -> Open {
-    let mut open = Open::default();
-    let mut state = run.start;
-    for (index, action) in run.actions(table).enumerate() {
-        open.meet(index + 1, absent(action.needs, state));
-        state = after(state, action);
+    Open::of(&absences(run, table, controlled))
+}
+
+/// The same by the old rule, which is 01's: a step that can't run has "its effects [..] applied all the same". 02 asks
+/// for both, to show that they tell the same runs valid.
+pub fn open_needs_by_old_rule(run: &Run, table: &[Action]) -> Open {
+    Open::of(&absences(run, table, after))
+}
+
+/// "The controller rejects the step, keeps the state and tries the next": a step that can't run does nothing.
+pub fn controlled(state: Facts, action: &Action) -> Facts {
+    if absent(action.needs, state) == 0 {
+        after(state, action)
+    } else {
+        state
     }
-    open.meet(run.count + 1, absent(run.goal, state));
-    open
+}
+
+/// The needs absent at each step of a run of a well-formed task, and last the goals absent at the end, if `step` is what
+/// a step makes of the state that it meets.
+pub fn absences(run: &Run, table: &[Action], mut step: impl FnMut(Facts, &Action) -> Facts) -> Vec<Facts> {
+    let mut state = run.start;
+    let mut absences = Vec::with_capacity(run.count + 1);
+    for action in run.actions(table) {
+        absences.push(absent(action.needs, state));
+        state = step(state, action);
+    }
+    absences.push(absent(run.goal, state));
+    absences
+}
+
+/// "The sum over the steps of the number of absent facts."
+pub fn total(absences: &[Facts]) -> u64 {
+    absences.iter().map(|absent| absent.count_ones() as u64).sum()
 }
 
 impl Open {
-    /// Takes the facts absent at this step into account.
-    fn meet(&mut self, step: usize, absent: Facts) {
-        if self.total == 0 && absent != 0 {
-            self.step = step as u64;
-            self.fact = absent.trailing_zeros() as u64;
+    /// "The total [..] with the first step that has one and its lowest fact. With none, all three are 0."
+    fn of(absences: &[Facts]) -> Open {
+        match absences.iter().position(|&absent| absent != 0) {
+            Some(index) => {
+                Open { total: total(absences), step: index as u64 + 1, fact: absences[index].trailing_zeros() as u64 }
+            }
+            None => Open::default(),
         }
-        self.total += absent.count_ones() as u64;
     }
 }

@@ -20,11 +20,15 @@ fn faults() -> Vec<String> {
     text(&named).lines().map(str::to_string).collect()
 }
 
+/// Which of the counts were met, of those that the report gives under this name.
+fn met(printed: &str, name: &str) -> Vec<bool> {
+    let counts = printed.lines().find_map(|line| line.strip_prefix(name)?.strip_prefix(": ")).expect(name);
+    counts.trim_matches(['[', ']']).split(", ").map(|count| count != "0").collect()
+}
+
 /// Whether reads were refused with this number at the kind byte, the first number, the second number of a record.
 fn places_met(printed: &str, number: u64) -> Vec<bool> {
-    let name = format!("reads refused {number}, at the kind byte, the first number, the second: ");
-    let counts = printed.lines().find_map(|line| line.strip_prefix(name.as_str())).expect("the places are counted");
-    counts.trim_matches(['[', ']']).split(", ").map(|count| count != "0").collect()
+    met(printed, &format!("reads refused {number}, at the kind byte, the first number, the second"))
 }
 
 #[test]
@@ -35,6 +39,8 @@ fn a_right_driver_passes() {
     assert!(text(&output).contains("compared 1500 tasks, 1500 files, 1500 edits"));
     assert_eq!(places_met(&text(&output), 5), [false, true, true]);
     assert_eq!(places_met(&text(&output), 6), [true, true, false]);
+    let totals = met(&text(&output), "runs checked, total equal to the old rule's, greater, smaller");
+    assert_eq!(totals, [true, true, true], "a total that only one of the two rules gives");
 }
 
 #[test]

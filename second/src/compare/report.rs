@@ -1,11 +1,13 @@
 //! What a comparison prints: a difference, and at the end the counts.
 
+use std::cmp::Ordering;
 use std::fmt;
 
 use crate::file::{file_of, record_around};
 use crate::protocol::{Call, Request, Response, CALLS};
 use crate::reference::Means;
 use crate::refusal::Ground;
+use crate::run::open_needs_by_old_rule;
 use crate::session::ROW;
 use crate::task::Task;
 
@@ -93,6 +95,9 @@ pub struct Counts {
     numbers: [[usize; NUMBERS]; CALLS.len()],
     /// Reads with each of these refusals, by its place: the kind byte, the first number, the second number.
     within: [[usize; 3]; WITHIN.len()],
+    /// Runs checked, by their total beside the one that the old rule would have given: equal, greater, smaller (02,
+    /// request 3).
+    totals: [usize; 3],
     /// First numbers of the rows of opened tables.
     rows: [usize; FIRST_NUMBERS],
 }
@@ -126,6 +131,9 @@ impl Counts {
         if request.call == Call::Read {
             self.take_place(&request.bytes, number, expected.words[1] as usize);
         }
+        if request.call == Call::Check && number == 0 {
+            self.take_total(request, expected.words[2]);
+        }
         if request.call == Call::Open && number == 0 {
             let numbers = crate::protocol::numbers_of(&expected.bytes);
             numbers.chunks(ROW).for_each(|row| self.rows[row[0] as usize] += 1);
@@ -138,6 +146,18 @@ impl Counts {
             let [_, record] = record_around(file, place).expect("5 and 6 are in a record after the first");
             self.within[which][place - record.place()] += 1;
         }
+    }
+
+    /// Counts a checked run by its total beside the old rule's.
+    fn take_total(&mut self, request: &Request, total: u64) {
+        let task = Task::from_words(request.task_words().unwrap_or(&[]));
+        let run = &task.runs[request.more_words()[0] as usize];
+        let which = match total.cmp(&open_needs_by_old_rule(run, &task.table).total) {
+            Ordering::Equal => 0,
+            Ordering::Greater => 1,
+            Ordering::Less => 2,
+        };
+        self.totals[which] += 1;
     }
 }
 
@@ -157,6 +177,7 @@ impl fmt::Display for Counts {
             let number = *ground as usize;
             writeln!(out, "reads refused {number}, at the kind byte, the first number, the second: {counts:?}")?;
         }
+        writeln!(out, "runs checked, total equal to the old rule's, greater, smaller: {:?}", self.totals)?;
         writeln!(out, "rows opened, by first number 0 to 8: {:?}", self.rows)?;
         writeln!(out, "solves compared with joined rows only: {}", self.joined)?;
         writeln!(out, "fresh solves that equalled a session's list: {}", self.agreements)?;

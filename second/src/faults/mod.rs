@@ -1,21 +1,23 @@
-//! Deliberate faults for the self-driver, among them 01's "errors that look right", those of several runs and those of
-//! the places of 5 and 6 (02, requests 1 and 2): the comparison must find each.
+//! Deliberate faults for the self-driver, among them 01's "errors that look right", those of several runs, of the places
+//! of 5 and 6 and of a step that can't run (02, requests 1 to 3): the comparison must find each.
 
+mod checks;
 mod files;
 
 use crate::answer::Budget;
 use crate::drive::Broken;
+use crate::listing::open_line;
 use crate::protocol::{bytes_of, numbers_of, Call, Request, Response};
 use crate::repair::{all_permitted, repaired, Repair};
-use crate::run::{after, all_valid};
+use crate::run::{all_valid, open_needs_by_old_rule};
 use crate::session::{in_form, row_of, ROW, TABLE, UNUSED};
-use crate::task::{has, Action, Run, Task, MOST_FACTS, MOST_RUNS, WORDS};
+use crate::task::{Run, Task, MOST_RUNS, WORDS};
 
 /// A fault makes a wrong response of a request and the right response.
 pub type Fault = fn(&mut Broken, &Request, Response) -> Response;
 
 /// The faults by name.
-pub const FAULTS: [(&str, Fault); 46] = [
+pub const FAULTS: [(&str, Fault); 52] = [
     ("limit-below", limit_below),
     ("equal-neighbours", files::equal_neighbours),
     ("range-after-order", files::range_after_order),
@@ -23,10 +25,10 @@ pub const FAULTS: [(&str, Fault); 46] = [
     ("past-end-at-length", files::past_end_at_length),
     ("bytes-after-end", files::bytes_after_end),
     ("no-64th-step", files::no_64th_step),
-    ("no-fact-63", no_fact_63),
-    ("unused-actions", unused_actions),
-    ("delete-wins", delete_wins),
-    ("steps-for-facts", steps_for_facts),
+    ("no-fact-63", checks::no_fact_63),
+    ("unused-actions", checks::unused_actions),
+    ("delete-wins", checks::delete_wins),
+    ("steps-for-facts", checks::steps_for_facts),
     ("last-of-shortest", last_of_shortest),
     ("shortest-for-inclusion", shortest_for_inclusion),
     ("goals-dropped", goals_dropped),
@@ -46,8 +48,8 @@ pub const FAULTS: [(&str, Fault); 46] = [
     ("no-eighth-run", files::no_eighth_run),
     ("ninth-run-out-of-order", files::ninth_run_out_of_order),
     ("steps-counted-over-all-runs", files::steps_counted_over_all_runs),
-    ("unused-runs", unused_runs),
-    ("check-beyond-is-empty", check_beyond_is_empty),
+    ("unused-runs", checks::unused_runs),
+    ("check-beyond-is-empty", checks::check_beyond_is_empty),
     ("first-run-solved", first_run_solved),
     ("rows-of-the-first-run", rows_of_the_first_run),
     ("edits-of-the-first-run", edits_of_the_first_run),
@@ -62,6 +64,12 @@ pub const FAULTS: [(&str, Fault); 46] = [
     ("ascent-at-the-kind", files::ascent_at_the_kind),
     ("ascent-at-the-number", files::ascent_at_the_number),
     ("steps-at-the-number", files::steps_at_the_number),
+    ("kept-though-it-may-run", checks::kept_though_it_may_run),
+    ("effects-all-the-same", checks::effects_all_the_same),
+    ("only-adds-held-back", checks::only_adds_held_back),
+    ("goals-by-the-old-rule", checks::goals_by_the_old_rule),
+    ("step-after-is-skipped", checks::step_after_is_skipped),
+    ("listing-by-the-old-rule", listing_by_the_old_rule),
 ];
 
 fn task_of(request: &Request) -> Option<Task> {
@@ -77,54 +85,6 @@ fn limit_below(_: &mut Broken, request: &Request, right: Response) -> Response {
     let limit = task_of(request).map_or(0, |task| task.limit as u64);
     if request.call == Call::Solve && refused_with(&right, 0) && right.words[2] == limit {
         return Response { words: vec![10, 0, 0], bytes: request.bytes.clone() };
-    }
-    right
-}
-
-/// With 64 facts the last one counts as outside (a shift by 64).
-fn no_fact_63(_: &mut Broken, request: &Request, right: Response) -> Response {
-    match task_of(request) {
-        Some(task) if request.call == Call::Check && task.facts == MOST_FACTS && has(task.runs[0].start, 63) => {
-            Response { words: vec![12, 0, 0, 0, 0], bytes: vec![] }
-        }
-        _ => right,
-    }
-}
-
-/// What stands for unused actions is not looked at.
-fn unused_actions(broken: &mut Broken, request: &Request, right: Response) -> Response {
-    match task_of(request) {
-        Some(mut task) if request.call == Call::Check && refused_with(&right, 12) => {
-            task.table.iter_mut().skip(task.actions).for_each(|action| *action = Action::default());
-            broken.with_task(request, &task)
-        }
-        _ => right,
-    }
-}
-
-/// Delete wins where an action both adds and deletes a fact.
-fn delete_wins(broken: &mut Broken, request: &Request, right: Response) -> Response {
-    match task_of(request) {
-        Some(mut task) if request.call == Call::Check => {
-            task.table.iter_mut().for_each(|action| action.adds &= !action.deletes);
-            broken.with_task(request, &task)
-        }
-        _ => right,
-    }
-}
-
-/// The total counts steps with an open need instead of absent facts.
-fn steps_for_facts(_: &mut Broken, request: &Request, mut right: Response) -> Response {
-    if request.call == Call::Check && refused_with(&right, 0) {
-        let task = Task::from_words(request.task_words().unwrap_or(&[]));
-        let run = task.runs[request.more_words()[0] as usize];
-        let mut state = run.start;
-        let mut total = 0;
-        for action in run.actions(&task.table) {
-            total += (action.needs & !state != 0) as u64;
-            state = after(state, action);
-        }
-        right.words[2] = total + (run.goal & !state != 0) as u64;
     }
     right
 }
@@ -297,25 +257,6 @@ fn form_of_used_places_only(broken: &mut Broken, request: &Request, right: Respo
     broken.right(&Request { bytes: bytes_of(&numbers), ..request.clone() })
 }
 
-/// What stands for unused runs is not looked at.
-fn unused_runs(broken: &mut Broken, request: &Request, right: Response) -> Response {
-    match task_of(request) {
-        Some(mut task) if request.call == Call::Check && refused_with(&right, 12) => {
-            task.runs.iter_mut().skip(task.many).for_each(|run| *run = Run::empty());
-            broken.with_task(request, &task)
-        }
-        _ => right,
-    }
-}
-
-/// A run that isn't there has no open needs.
-fn check_beyond_is_empty(_: &mut Broken, request: &Request, right: Response) -> Response {
-    if request.call == Call::Check && refused_with(&right, 14) {
-        return Response { words: vec![0; 5], bytes: vec![] };
-    }
-    right
-}
-
 /// The task with its first run alone.
 fn with_first_run(task: &Task) -> Task {
     let mut first = Task { many: 1, ..*task };
@@ -390,4 +331,16 @@ fn steps_of_the_first_run(_: &mut Broken, request: &Request, right: Response) ->
     let first = format!("task {} {} {} {}\n", task.facts, task.actions, task.limit, task.runs[0].count);
     let rest = without_lines(&right, |(index, _)| *index > 0);
     Response { words: vec![], bytes: [first.into_bytes(), rest.bytes].concat() }
+}
+
+/// The listing's open lines still follow the old rule.
+fn listing_by_the_old_rule(_: &mut Broken, request: &Request, right: Response) -> Response {
+    let Ok(task) = crate::file::read(&request.bytes) else { return right };
+    if request.call != Call::Listing {
+        return right;
+    }
+    let first = without_lines(&right, |(index, _)| *index == 0);
+    let opens = task.known_runs().iter().map(|run| open_line(&open_needs_by_old_rule(run, &task.table)));
+    let rest = without_lines(&right, |(index, line)| *index > 0 && !line.starts_with("open"));
+    Response { words: vec![], bytes: [first.bytes, opens.collect::<String>().into_bytes(), rest.bytes].concat() }
 }
