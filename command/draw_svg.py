@@ -1,9 +1,11 @@
 """A picture for a report, as SVG: steps down, facts across. A fact that is present is a filled bar beside its steps; a need is
-a ring on it, and a need that is missing a cross in a box. The colours only repeat the shapes."""
+a ring on it, and a need that is missing a cross in a box. Behind the facts of a step that could not run stands a sign. The
+colours only repeat the shapes."""
 
 from html import escape
 
 import draw_text
+from picture import CHANGED, REJECTED
 
 ROW, COLUMN, MARGIN, GAP, MARK = 20, 26, 16, 40, 40  # in pixels
 LETTER = 7.3  # the width of a letter of monospace at 12 pixels
@@ -15,6 +17,7 @@ STYLE = """
   .need { fill: #fff; stroke: #1f6f38; stroke-width: 2 }
   .missing { fill: #fff; stroke: #b3261e; stroke-width: 2 }
   .cross { stroke: #b3261e; stroke-width: 2 }
+  .rejected { font-weight: bold; fill: #b3261e }
   .absent { fill: #999 }
   .line { stroke: #e4e4e4 }
   .changed { fill: #fff3c4 }
@@ -49,7 +52,8 @@ class Grid:
         names = max((LETTER * draw_text.width(heading) for heading in picture.headings()), default=0)
         self.upright = len(picture.facts) > 1  # one name alone stands level above its column
         self.left = MARGIN + LETTER * max(labels) + 12
-        self.side = max(COLUMN * len(picture.facts), LETTER * len("before"), 0 if self.upright else names) + GAP
+        signs = COLUMN * len(picture.facts) + LETTER * len(REJECTED)
+        self.side = max(signs, LETTER * len("before"), 0 if self.upright else names) + GAP
         self.right = self.left + len(picture.sides) * self.side - GAP
         self.above = ROW + (names + 16 if self.upright else ROW)
 
@@ -63,15 +67,17 @@ def drawn_run(picture, run, grid, y):
     parts = [text(MARGIN, y + 12, run.heading, "head")] if run.heading else []
     parts += rows(run, top, grid.right)
     for number, (heading, cells) in enumerate(zip(picture.sides, run.sides)):
-        parts.append(text(grid.left + number * grid.side, y + 12, heading, "head"))
-        parts += columns(picture, cells, grid.left + number * grid.side, top, grid.upright)
+        x = grid.left + number * grid.side
+        parts.append(text(x, y + 12, heading, "head"))
+        parts += columns(picture, cells, x, top, grid.upright)
+        parts += rejections(run.rejected(number), x + COLUMN * len(picture.facts), top)
     return parts
 
 
 def sentences(picture):
     if not picture.facts:
         return ["Nothing is missing, and nothing is changed."]
-    told = ["Each line shows the facts before its step.", *(f"* changed: {change}" for change in picture.changes)]
+    told = ["Each line shows the facts before its step.", *(f"{sign} {words}" for sign, words in picture.legend())]
     return told + [line for shared in picture.shared() for line in draw_text.wrapped(shared, WRAP)]
 
 
@@ -103,7 +109,7 @@ def rows(run, top, right):
         if row.changed:
             parts.append(f'<rect class="changed" x="{MARGIN}" y="{y}" width="{right - MARGIN:.1f}" height="{ROW}"/>')
         parts.append(f'<line class="line" x1="{MARGIN}" y1="{y}" x2="{right:.1f}" y2="{y}"/>')
-        parts.append(text(MARGIN, y + 14, f"{row.step:>3}  {row.action}{' *' if row.changed else ''}"))
+        parts.append(text(MARGIN, y + 14, f"{row.step:>3}  {row.action}{' ' + CHANGED if row.changed else ''}"))
     return parts
 
 
@@ -115,6 +121,12 @@ def columns(picture, cells, x, top, upright):
         for number, row in enumerate(cells):
             parts += mark(row[column].present, row[column].needed, middle, top + ROW * number)
     return parts
+
+
+def rejections(rejected, x, top):
+    """The signs of the steps that could not run, in a column of their own."""
+    rows = [number for number, is_rejected in enumerate(rejected) if is_rejected]
+    return [text(x, top + ROW * number + 14, REJECTED, "rejected") for number in rows]
 
 
 def mark(present, needed, x, y):

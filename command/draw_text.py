@@ -4,13 +4,13 @@ import textwrap
 import unicodedata
 
 from colours import DIM, GREEN, PLAIN, RED
+from picture import CHANGED, REJECTED
 
 SIGNS = {(False, False): " . ", (True, False): " + ", (True, True): "[+]", (False, True): "[X]"}  # present, needed
 LEGEND = [
     "Each line shows the facts before its step.",
     ".  absent     +  present     [+]  needed and present     [X]  needed and missing",
 ]
-CHANGED = " *"  # beside an action that the correction changes
 PITCH = 4  # columns of a fact
 GAP = "   "  # between the parts of a line
 LONGEST_ACTION, LONGEST_FACT = 28, 32
@@ -39,12 +39,12 @@ def lines(picture, columns, coloured):
     if not picture.facts:
         return [f"{picture.title}: nothing is missing, and nothing is changed"]
     actions = min(LONGEST_ACTION, max(width(row.action) for run in picture.runs for row in run.rows))
-    left = 4 + len(GAP) + actions + len(CHANGED) + 1
+    left = width(label(picture.runs[0].rows[0], actions))
     room = (columns - left) // len(picture.sides) - len(GAP)
     drawing = [picture.title]
     for run in picture.runs:
         drawing += ["", *([run.heading] if run.heading else []), *run_lines(picture, run, room, actions, coloured)]
-    drawing += ["", *LEGEND, *(f"{CHANGED.strip()}  changed: {change}" for change in picture.changes)]
+    drawing += ["", *LEGEND, *(f"{sign}  {words}" for sign, words in picture.legend())]
     return drawing + [line for shared in picture.shared() for line in ["", *wrapped(shared, columns)]]
 
 
@@ -64,8 +64,9 @@ def wrapped(sentence, columns):
 
 
 def side_width(facts):
-    """The columns of one side: each fact has its own, and its name stands above and runs on to the right."""
-    return max(PITCH * i + 1 + width(fact) for i, fact in enumerate(facts))
+    """The columns of one side: each fact has its own, and its name stands above and runs on to the right. Behind them is the
+    sign of a step that could not run."""
+    return max(PITCH * len(facts) + len(REJECTED), *(PITCH * i + 1 + width(fact) for i, fact in enumerate(facts)))
 
 
 def fitting(facts, room):
@@ -77,27 +78,38 @@ def fitting(facts, room):
 
 
 def part(picture, run, start, facts, actions, coloured):
-    across = max(side_width(facts), PITCH * len(facts), len("before"))
-    left = " " * (4 + len(GAP) + actions + len(CHANGED) + 1)
-    headings = [fit(" " + heading, across) for heading in picture.sides]
-    drawing = [left + GAP.join(headings).rstrip()]
-    for i, fact in enumerate(facts):
-        names = [fit(" |  " * i + " " + fact, across) for _ in picture.sides]
-        drawing.append(left + GAP.join(names).rstrip())
+    across = max(side_width(facts), len("before"))
+    drawing = above(picture, facts, across, width(label(run.rows[0], actions)))
+    rejected = [run.rejected(side) for side in range(len(run.sides))]
     for number, row in enumerate(run.rows):
-        label = f"{row.step:>4}{GAP}{fit(row.action, actions)}{CHANGED if row.changed else '':{len(CHANGED)}} "
-        sides = [cells[number][start : start + len(facts)] for cells in run.sides]
-        drawing.append((label + GAP.join(signs(side, across, coloured) for side in sides)).rstrip())
+        sides = [(cells[number][start : start + len(facts)], is_so[number]) for cells, is_so in zip(run.sides, rejected)]
+        drawn = GAP.join(signs(*side, across, coloured) for side in sides)
+        drawing.append((label(row, actions) + drawn).rstrip())
     return drawing
 
 
-def signs(cells, across, coloured):
+def above(picture, facts, across, left):
+    """The headings of the sides, and the facts' names."""
+    lines = [[" " + heading for heading in picture.sides]]
+    lines += [[" |  " * i + " " + fact for _ in picture.sides] for i, fact in enumerate(facts)]
+    return [" " * left + GAP.join(fit(text, across) for text in line).rstrip() for line in lines]
+
+
+def label(row, actions):
+    """A step's number and action, with the sign of one that is changed."""
+    return f"{row.step:>4}{GAP}{fit(row.action, actions)} {CHANGED if row.changed else ' '} "
+
+
+def signs(cells, is_rejected, across, coloured):
+    """A row of a side; behind its facts the sign of a step that could not run there."""
     drawn = [sign(cell, coloured) + " " for cell in cells]
-    return "".join(drawn) + " " * (across - PITCH * len(cells))
+    drawn.append(painted(REJECTED, RED, coloured) if is_rejected else " " * len(REJECTED))
+    return "".join(drawn) + " " * (across - PITCH * len(cells) - len(REJECTED))
 
 
 def sign(cell, coloured):
-    text = SIGNS[cell.present, cell.needed]
-    if not coloured:
-        return text
-    return (RED if cell.missing else GREEN if cell.present else DIM) + text + PLAIN
+    return painted(SIGNS[cell.present, cell.needed], RED if cell.missing else GREEN if cell.present else DIM, coloured)
+
+
+def painted(text, colour, coloured):
+    return colour + text + PLAIN if coloured else text

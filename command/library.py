@@ -12,8 +12,8 @@ DRIVER = ROOT / "target" / "c" / "driver"
 READ, WRITE, CHECK, APPLY, SOLVE = 2, 3, 4, 5, 6
 
 # The places of a task's words (c/zernoplysk.h).
-AT_NEEDS, AT_MANY, AT_GOALS, AT_COUNTS, AT_STEPS = 3, 99, 108, 116, 124
-ACTIONS, STEPS, LONGEST_FILE, LONGEST_LIST = 32, 64, 21516, 6
+AT_MANY, AT_GOALS, AT_COUNTS, AT_STEPS = 99, 108, 116, 124
+STEPS, LONGEST_FILE, LONGEST_LIST = 64, 21516, 6
 
 
 class Library:
@@ -47,26 +47,36 @@ class Library:
         return room[:length]
 
     def presence(self, task, facts):
-        """For each run, and each number of its steps from none to all, the facts of these that are present after so many. It is
-        the run check that says so: of the run cut there, with nothing needed and these facts as its goals. Where it counts
-        some of them as absent and not all, each half is asked again."""
+        """For each run, and each number of its steps from none to all, the facts of these that are present after so many: those
+        that the controller then has (02, request 3). It is the run check that says so, of the run cut there: with these facts
+        as its goals it counts more than without goals, by as many as are absent."""
         states = [[set() for _ in range(task[AT_COUNTS + run] + 1)] for run in range(task[AT_MANY])]
-        asked = [(run, done, list(facts)) for run, each in enumerate(states) for done in range(len(each))]
+        places = [(run, done) for run, each in enumerate(states) for done in range(len(each))]
+        in_steps = dict(zip(places, self.totals(task, [(*place, []) for place in places])))
+        asked = [(*place, list(facts)) for place in places]
         while asked:
-            further = []
-            for (run, done, goals), absent in zip(asked, self.absent(task, asked)):
-                if absent == 0:
-                    states[run][done].update(goals)
-                elif absent < len(goals):
-                    half = len(goals) // 2
-                    further += [(run, done, goals[:half]), (run, done, goals[half:])]
-            asked = further
+            totals = self.totals(task, asked)
+            absent = [total - in_steps[run, done] for (run, done, _), total in zip(asked, totals)]
+            asked = halves(states, asked, absent)
         return states
 
-    def absent(self, task, asked):
-        """For each that is asked, (run, steps done, goals), how many of the goals are absent."""
+    def totals(self, task, asked):
+        """For each that is asked, (run, steps done, goals), the run check's total."""
         requests = [(CHECK, [*cut(task, run, done, goals), run], b"") for run, done, goals in asked]
         return [accepted(words)[0] for words, _ in self.ask(requests)]
+
+
+def halves(states, asked, absent):
+    """Takes the goals of which none is absent into their states. Those of which some are absent and not all are to be asked
+    again, each half by itself."""
+    further = []
+    for (run, done, goals), many in zip(asked, absent):
+        if many == 0:
+            states[run][done].update(goals)
+        elif many < len(goals):
+            half = len(goals) // 2
+            further += [(run, done, goals[:half]), (run, done, goals[half:])]
+    return further
 
 
 def accepted(words):
@@ -77,9 +87,8 @@ def accepted(words):
 
 
 def cut(task, run, done, goals):
-    """The task with this run cut after so many steps and with these goals, and nothing needed."""
+    """The task with this run cut after so many steps and with these goals."""
     words, at = list(task), AT_STEPS + STEPS * run
-    words[AT_NEEDS : AT_NEEDS + ACTIONS] = [0] * ACTIONS
     words[AT_GOALS + run] = sum(1 << fact for fact in goals)
     words[AT_COUNTS + run] = done
     words[at + done : at + STEPS] = [0] * (STEPS - done)

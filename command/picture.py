@@ -1,5 +1,6 @@
 """What there is to draw of the runs: for each step and fact whether it is present, needed, or both, before and after the
-correction. Whether a fact is present is the library's answer (Library.presence); what is needed stands in the table."""
+correction. Whether a fact is present is the library's answer (Library.presence); what is needed stands in the table. A step
+with a need that is missing could not run: the controller rejects it and keeps the state (02, request 3)."""
 
 from dataclasses import dataclass
 
@@ -27,6 +28,7 @@ class Row:
 
 
 MANY = 12  # with more facts than these, those that run alike share a column
+REJECTED, CHANGED = "!", "*"  # behind the facts of a step that could not run; beside an action that the correction changes
 
 
 @dataclass(frozen=True)
@@ -34,6 +36,12 @@ class Run:
     heading: str  # None for a single run without a name
     rows: list
     sides: list  # for before, and for after where there is a correction: for each row a list of cells
+
+    def rejected(self, side):
+        """Of each row of a side, whether its step could not run there. Whatever is missing somewhere has a column; the end is no
+        step."""
+        *steps, _ = self.sides[side]
+        return [*(any(cell.missing for cell in row) for row in steps), False]
 
 
 @dataclass(frozen=True)
@@ -50,6 +58,12 @@ class Picture:
     def shared(self):
         """For each column that facts share, the sentence that names them."""
         return [f"{heading}: {', '.join(names)}" for heading, names in zip(self.headings(), self.facts) if len(names) > 1]
+
+    def legend(self):
+        """What the signs at a step say, each with its words; of those that are there."""
+        rejected = any(is_so for run in self.runs for side in range(len(self.sides)) for is_so in run.rejected(side))
+        told = [(REJECTED, "could not run, did nothing")] if rejected else []
+        return told + [(CHANGED, f"changed: {change}") for change in self.changes]
 
 
 def drawn(file, data, found, names, library):

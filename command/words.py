@@ -47,7 +47,7 @@ def answer(file, found, names, runs):
     sizes = ", ".join([counted(facts, "fact"), counted(actions, "action"), steps, f"at most {counted(limit, 'repair')}"])
     each = zip(names.headings(len(runs)), found.opens, runs)
     missing = [line for heading, told, run in each for line in needs(heading, told, names, run.steps)]
-    return [f"{file}: {sizes}", "", *missing, "", *change(found, names)]
+    return [f"{file}: {sizes}", "", *missing, *rejected(found, runs), "", *change(found, names)]
 
 
 def needs(heading, told, names, steps):
@@ -63,6 +63,13 @@ def needs(heading, told, names, steps):
     if total == 1:
         return [f"One need is missing{where}:", first]
     return [f"{total} needs are missing{where}; the first of them:", first]
+
+
+def rejected(found, runs):
+    """Where a step of some run can't run: what the totals are counted by (02, request 3)."""
+    if any(0 < step <= len(run.steps) for (_, step, _), run in zip(found.opens, runs)):
+        return ["A step that can't run does nothing, and the next one is tried."]
+    return []
 
 
 def all_of_them(found):

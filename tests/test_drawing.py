@@ -47,13 +47,15 @@ the run of samples/first.txt
                     before                 after
                     laser-ready            laser-ready
                     |   direction-known    |   direction-known
-   1   warm-up   *  .   .                  .   .
-   2   sweep     * [+]  .                 [+]  +
-   3   store-row   [X] [X]                [+] [+]
-       (the end)    .   .                  +   +
+                    |   |   row-stored     |   |   row-stored
+   1   warm-up   *  .   .   .              .   .   .
+   2   sweep     * [+]  .   .             [+]  +   .
+   3   store-row   [X] [X]  .  !          [+] [+]  .
+       (the end)    .   .  [X]             +   +  [+]
 
 Each line shows the facts before its step.
 .  absent     +  present     [+]  needed and present     [X]  needed and missing
+!  could not run, did nothing
 *  changed: sweep should not end laser-ready
 *  changed: warm-up should make direction-known true
 """
@@ -63,29 +65,35 @@ RUNS = """\
 the runs of samples/runs.txt
 
 run short
-                    before             after
-                    direction-known    direction-known
-   1   switch-on    .                  .
-   2   open-map     .                  .
-   3   turn      *  .                  .
-   4   sweep-to    [X]                [+]
-   5   store-row   [X]                [+]
-   6   close-map   [X]                [+]
-   7   go-home      .                  +
-       (the end)    .                  +
+                    before                      after
+                    at-right                    at-right
+                    |   direction-known         |   direction-known
+                    |   |   row-in-buffer       |   |   row-in-buffer
+                    |   |   |   map-complete    |   |   |   map-complete
+   1   switch-on    .   .   .   .               .   .   .   .
+   2   open-map     .   .   .   .               .   .   .   .
+   3   turn      *  .   .   .   .               .   .   .   .
+   4   sweep-to     .  [X]  .   .  !            .  [+]  .   .
+   5   store-row    .  [X] [X]  .  !            +  [+] [+]  .
+   6   close-map    .  [X]  .   .  !            +  [+]  .   .
+   7   go-home      .   .   .   .               +   +   .   +
+       (the end)    .   .   .  [X]              .   +   .  [+]
 
 run long
-                    before             after
-                    direction-known    direction-known
-   1   switch-on    .                  .
-   2   open-map     .                  .
-   3   turn      *  .                  .
-   4   sweep-to    [X]                [+]
-   5   store-row   [X]                [+]
-   6   next-line    .                  +
-   7   turn      *  .                  .
-   8   sweep-fro   [X]                [+]
-   9   store-row   [X]                [+]
+                    before                      after
+                    at-right                    at-right
+                    |   direction-known         |   direction-known
+                    |   |   row-in-buffer       |   |   row-in-buffer
+                    |   |   |   map-complete    |   |   |   map-complete
+   1   switch-on    .   .   .   .               .   .   .   .
+   2   open-map     .   .   .   .               .   .   .   .
+   3   turn      *  .   .   .   .               .   .   .   .
+   4   sweep-to     .  [X]  .   .  !            .  [+]  .   .
+   5   store-row    .  [X] [X]  .  !            +  [+] [+]  .
+   6   next-line    .   .   .   .               +   +   .   .
+   7   turn      *  .   .   .   .               +   .   .   .
+   8   sweep-fro   [X] [X]  .   .  !           [+] [+]  .   .
+   9   store-row    .  [X] [X]  .  !            .  [+] [+]  .
 """
 
 
@@ -101,7 +109,7 @@ class Drawing(Case):
     def test_each_run(self):
         told = shown(self.expect(mend("samples/runs.txt", "--show", cwd=ROOT), LIST))
         self.assertEqual(told[: len(RUNS)], RUNS)
-        self.assertEqual((told.count("[X]"), told.count("(the end)")), (3 + 9 + 1, 2))  # and once in the legend
+        self.assertEqual((told.count("[X]"), told.count("(the end)")), (5 + 16 + 1, 2))  # and once in the legend
         numbered = shown(self.expect(mend("samples/runs.task", "--show", cwd=ROOT), LIST))
         self.assertEqual(re.findall(r"(?m)^run .*", numbered), ["run 1", "run 2"])
 
@@ -113,17 +121,20 @@ class Drawing(Case):
 
     def test_colours_repeat_the_signs(self):
         coloured = in_terminal(["samples/first.txt", "--show"])
-        self.assertEqual(len(re.findall(r"\033\[1;31m\[X\]\033\[0m", coloured)), 2)
+        red = re.findall(r"\033\[1;31m([^\033]*)\033\[0m", coloured)
+        self.assertEqual(red, ["[X]", "[X]", "!", "[X]"])
         plain = re.sub(r"\033\[[0-9;]*m", "", coloured)
         self.assertEqual(shown(re.sub(r"(?m) +$", "", plain)), FIRST)
         self.assertEqual(shown(in_terminal(["samples/first.txt", "--show"], NO_COLOR="1")), FIRST)
         self.assertEqual(shown(in_terminal(["samples/first.txt", "--show"], TERM="dumb")), FIRST)
 
     def test_narrow_terminals_get_parts(self):
-        told = shown(self.expect(mend("samples/wordiest.txt", "--show", cwd=ROOT, env={**os.environ, "COLUMNS": "60"}), LIST))
-        self.assertLessEqual(max(map(len, told.splitlines()[:-9])), 60)
-        self.assertEqual(told.count("(the end)"), 8 * 2)
-        self.assertEqual(told.count("[X]"), 8 * 102 + 1)  # and once in the legend
+        told = shown(self.expect(mend("samples/runs.txt", "--show", cwd=ROOT, env={**os.environ, "COLUMNS": "64"}), LIST))
+        drawing, legend = told.split("\nEach line shows")
+        self.assertLessEqual(max(map(len, drawing.splitlines())), 64)
+        self.assertEqual(drawing.count("(the end)"), 3 * 2)
+        self.assertEqual(drawing.count("[X]"), 5 + 16)
+        self.assertEqual((drawing.count("!"), legend.count("!")), (3 * (3 + 9), 1))  # a step's sign is in each part
 
     def test_64_facts_and_64_steps(self):
         told = shown(self.expect(mend(self.file("many.txt", MANY), "--show"), NO_LIST))
@@ -169,18 +180,22 @@ class Drawing(Case):
 
     def test_presence_is_asked_of_the_run_check(self):
         states = [[{0, 1, 2}, {1}], [{0, 2}], [set(), {0, 1, 2}, {2}]]  # of three runs, after each number of steps
-        task = [0] * 636
+        in_steps = [[0, 2], [0], [0, 0, 64]]  # how many needs are open up to there
+        task, pipes = [0] * 636, []
         task[library.AT_MANY], task[library.AT_COUNTS : library.AT_COUNTS + 3] = 3, [1, 0, 2]
 
         def checked(requests):
+            pipes.append(len(requests))
             for call, (*words, run), _ in requests:
                 self.assertEqual((call, len(words)), (library.CHECK, 636))
-                goals = {fact for fact in range(3) if words[library.AT_GOALS + run] >> fact & 1}
-                yield [0, 0, len(goals - states[run][words[library.AT_COUNTS + run]]), 0, 0], b""
+                goals, done = words[library.AT_GOALS + run], words[library.AT_COUNTS + run]
+                absent = {fact for fact in range(3) if goals >> fact & 1} - states[run][done]
+                yield [0, 0, in_steps[run][done] + len(absent), 0, 0], b""
 
         calls = library.Library.__new__(library.Library)
         with mock.patch.object(calls, "ask", lambda requests: list(checked(requests))):
             self.assertEqual(calls.presence(task, range(3)), states)
+        self.assertEqual(pipes, [6, 6, 2 * 3, 2 * 3])  # without goals, with all, and twice the halves of the three that are mixed
         with mock.patch.object(calls, "ask", lambda requests: [([14, 0, 0, 0, 0], b"")] * len(requests)):
             with self.assertRaises(Stop):
                 calls.presence(task, range(3))
@@ -189,7 +204,7 @@ class Drawing(Case):
         task = list(range(1, 637))
         words = library.cut(task, 2, 3, [0, 63])
         steps = library.AT_STEPS + 2 * 64
-        changed = {**{at: 0 for at in range(3, 35)}, library.AT_GOALS + 2: 1 | 1 << 63, library.AT_COUNTS + 2: 3}
+        changed = {library.AT_GOALS + 2: 1 | 1 << 63, library.AT_COUNTS + 2: 3}
         changed |= {at: 0 for at in range(steps + 3, steps + 64)}
         self.assertEqual(words, [changed.get(at, word) for at, word in enumerate(task)])
         self.assertFalse((self.folder / "out").exists())
@@ -211,7 +226,7 @@ class Picture(Case):
 
     def test_signs_of_every_cell(self):
         root = self.svg(SAMPLES / "story.txt", LIST)
-        self.assertEqual((self.count(root, "missing"), self.count(root, "need")), (9 + 1, 9 + 1))  # and once in the legend
+        self.assertEqual((self.count(root, "missing"), self.count(root, "need")), (16 + 1, 16 + 1))  # and once in the legend
         self.assertEqual(self.count(root, "cross"), 2 * self.count(root, "missing"))
         texts = [each.text for each in root.iter("{http://www.w3.org/2000/svg}text")]
         for words in ("before", "after", "direction-known", "  3  turn *", "* changed: turn should make direction-known true"):
@@ -219,7 +234,7 @@ class Picture(Case):
 
     def test_each_run(self):
         root = self.svg(SAMPLES / "runs.txt", LIST)
-        self.assertEqual(self.count(root, "missing"), 3 + 9 + 1)  # and once in the legend
+        self.assertEqual(self.count(root, "missing"), 5 + 16 + 1)  # and once in the legend
         texts = [each.text for each in root.iter("{http://www.w3.org/2000/svg}text")]
         self.assertEqual([text for text in texts if text.startswith("run ")], ["run short", "run long"])
         self.assertEqual((texts.count("before"), texts.count("after"), texts.count("     (the end)")), (2, 2, 2))

@@ -13,10 +13,11 @@ from listing import Listing
 RUNS = """\
 {file}: 8 facts, 9 actions, 2 runs of 26 steps in all, at most 6 repairs
 
-3 needs are missing in run {short}; the first of them:
+5 needs are missing in run {short}; the first of them:
   step 4, {sweep}: needs {known}, which is absent
-9 needs are missing in run {long}; the first of them:
+16 needs are missing in run {long}; the first of them:
   step 4, {sweep}: needs {known}, which is absent
+A step that can't run does nothing, and the next one is tried.
 
 To change (1 repair):
   {turn} should make {known} true
@@ -79,7 +80,7 @@ class Words(Case):
             told = self.expect(mend("samples/runs.task", "--names", f"samples/{lender}.txt", cwd=ROOT), LIST)
             self.assertEqual(told, RUNS.format(file="samples/runs.task", **NAMES, **runs))
         told = self.expect(mend("samples/story.task", "--names", "samples/runs.txt", cwd=ROOT), LIST)
-        self.assertIn("\n9 needs are missing; the first of them:\n", told)
+        self.assertIn("\n16 needs are missing; the first of them:\n", told)
 
     def test_a_first_run_without_a_name_is_run_1(self):
         told = self.expect(mend(self.file("a.txt", GOOD + "run again\nsteps press\n")), LIST)
@@ -117,6 +118,7 @@ class Words(Case):
             "  at the end: the goal b is absent",
             "4 needs are missing in run y; the first of them:",
             "  step 1, stop: needs a, which is absent",
+            "A step that can't run does nothing, and the next one is tried.",
             "",
             "A list of repairs makes every run valid, but none of at most 3, which is the limit.",
         ])  # fmt: skip
@@ -137,12 +139,12 @@ class Story(Case):
         self.assertIn("To change (1 repair):\n  switch-on should make direction-known true\n", told)
         cured = (self.folder / "cured").read_text()
         told = self.expect(mend(self.file("long.txt", cured.replace(short, long))), LIST)
-        self.assertIn("7 needs are missing in run long; the first of them:\n  step 8, sweep-fro: needs direction-known,", told)
+        self.assertIn("12 needs are missing in run long; the first of them:\n  step 8, sweep-fro: needs direction-known,", told)
         self.assertIn("To change (1 repair):\n  next-line should not end direction-known\n", told)
 
     def test_the_repairs_of_the_table_in_the_story(self):
         table, short, long = self.parts()
-        for action, missing in (("switch-on", 7), ("open-map", 7), ("turn", 0)):
+        for action, missing in (("switch-on", 12), ("open-map", 12), ("turn", 0)):
             cured = re.sub(rf"(?m)^action {action}\b.*$", r"\g<0>\n  adds direction-known", table)
             told = self.expect(mend(self.file("a.txt", cured + short + long)), LIST)
             self.assertIn("Nothing is missing in run short:", told)

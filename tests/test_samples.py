@@ -5,7 +5,7 @@ import re
 from support import LIST, NO_LIST, REFUSED, ROOT, SAMPLES, Case, mend
 
 STATUS = {
-    "first": LIST, "story": LIST, "runs": LIST, "pairs": LIST, "fullest": LIST, "wordiest": LIST,
+    "first": LIST, "story": LIST, "runs": LIST, "hidden": LIST, "pairs": LIST, "fullest": LIST, "wordiest": LIST,
     "hopeless": NO_LIST, "over": NO_LIST, "damaged": REFUSED, "torn": REFUSED, "trailing": REFUSED,
 }  # fmt: skip
 PLACES = {"damaged": ":20:1", "torn": ":20:1", "trailing": ":51:1"}  # of the statement that damages the file
@@ -19,8 +19,9 @@ MARKED = {"damaged": "[03]", "torn": "[..]", "trailing": "[00]"}
 STORY = """\
 {file}: 8 facts, 9 actions, 19 steps, at most 6 repairs
 
-9 needs are missing; the first of them:
+16 needs are missing; the first of them:
   step 4, {sweep}: needs {known}, which is absent
+A step that can't run does nothing, and the next one is tried.
 
 To change (1 repair):
   {turn} should make {known} true
@@ -31,12 +32,12 @@ NAMES = {"sweep": "sweep-to", "known": "direction-known", "turn": "turn"}
 NUMBERS = {"sweep": "action 3", "known": "fact 4", "turn": "action 2"}
 
 WORDS = {
-    "first": ["  sweep should not end laser-ready", "  warm-up should make direction-known true", "To change (2 repairs):"],
+    "first": ["3 needs are missing; the first of them:", "To change (2 repairs):", "  sweep should not end laser-ready"],
     "pairs": [f"  move-{number} should not end shutter-open" for number in range(1, 7)],
-    "wordiest": ["102 needs are missing in run panel-8; the first of them:", "  tilt should not end row-63"],
+    "wordiest": ["1030 needs are missing in run panel-8; the first of them:", "  tilt should not end row-63"],
     "fullest": [f"Nothing is missing in run panel-{number}: the run is valid as the table stands." for number in range(1, 9)],
     "hopeless": ["  at the end: the goal map-complete is absent", "No list of repairs, of any length, makes the run valid."],
-    "runs": ["3 needs are missing in run short; the first of them:", "  turn should make direction-known true"],
+    "runs": ["5 needs are missing in run short; the first of them:", "  turn should make direction-known true"],
     "over": ["A list of repairs makes the run valid, but none of at most 6, which is the limit."],
 }
 
@@ -95,7 +96,12 @@ class Samples(Case):
                     ran = mend(*words.split(), cwd=ROOT)
                     self.assertEqual([line[4:] for line in shown.rstrip().splitlines()], (ran.stdout + ran.stderr).splitlines())
                     seen.add(page.name)
-        self.assertLessEqual({"README.md", "damaged.md", "torn.md", "trailing.md"}, seen)
+        self.assertLessEqual({"README.md", "damaged.md", "hidden.md", "torn.md", "trailing.md"}, seen)
+
+    def test_the_longest_listing_is_as_long_as_its_page_says(self):
+        listing = (SAMPLES / "wordiest.listing").read_bytes()
+        self.assertIn(f"That is {len(listing)} bytes, and no listing is longer.", (SAMPLES / "wordiest.md").read_text())
+        self.assertIn(f"| the longest listing, {len(listing)} bytes,", (SAMPLES / "README.md").read_text())
 
     def test_the_story_of_the_damaged_byte(self):
         """samples/damaged.md: one bit is turned, and each of the three actions would be accepted."""
