@@ -1,6 +1,6 @@
 /* A small test of each function of the header: 01's 36-byte file through every call, which byte is wrong, the order of the
- * parameters, several runs, short rooms and short answers, empty slices and wrong lengths. It prints what fails and ends
- * with status 1 if anything did. */
+ * parameters, several runs, steps that can't run, short rooms and short answers, empty slices and wrong lengths. It prints
+ * what fails and ends with status 1 if anything did. */
 #include <stdio.h>
 #include <string.h>
 
@@ -133,7 +133,7 @@ static void order_of_reading_and_writing(void) {
     expect(is_reply(0, 0, 36) && memcmp(room, file, sizeof file) == 0 && bytes_kept(room + 36, 4),
            "order: write, task before room before answer");
     expect(zp_check(lend(), ZP_TASK_WORDS, 0, fresh(), ZP_CHECKED_WORDS) == 0, "order: check");
-    expect(is_checked(0, 2, 3, 1) && as_lent(), "order: check, task before run before answer");
+    expect(is_checked(0, 3, 3, 1) && as_lent(), "order: check, task before run before answer");
 }
 
 static void order_of_changing(void) {
@@ -153,7 +153,7 @@ static void order_of_changing(void) {
 }
 
 static void order_of_solving(void) {
-    static const char text[] = "task 4 3 3 3\nopen 2 3 1\nset 2\ndrop-delete 1 1\nadd-effect 0 2\nend\n";
+    static const char text[] = "task 4 3 3 3\nopen 3 3 1\nset 2\ndrop-delete 1 1\nadd-effect 0 2\nend\n";
     uint16_t room[8], table[ZP_TABLE_NUMBERS];
     uint8_t letters[ZP_LISTING_BYTES];
     memset(room, UNTOUCHED, sizeof room);
@@ -318,10 +318,10 @@ static void reading_runs(void) {
 }
 
 static void checking_runs(void) {
-    expect(zp_check(task, ZP_TASK_WORDS, 0, fresh(), ZP_CHECKED_WORDS) == 0 && is_checked(0, 2, 3, 1), "runs: check of run 0");
+    expect(zp_check(task, ZP_TASK_WORDS, 0, fresh(), ZP_CHECKED_WORDS) == 0 && is_checked(0, 3, 3, 1), "runs: check of run 0");
     expect(zp_check(task, ZP_TASK_WORDS, 1, fresh(), ZP_CHECKED_WORDS) == 0 && is_checked(0, 0, 0, 0), "runs: check of run 1");
     lend()[ZP_AT_STARTS + 1] = 2;
-    expect(zp_check(lent, ZP_TASK_WORDS, 1, fresh(), ZP_CHECKED_WORDS) == 0 && is_checked(0, 1, 1, 2), "runs: its own start");
+    expect(zp_check(lent, ZP_TASK_WORDS, 1, fresh(), ZP_CHECKED_WORDS) == 0 && is_checked(0, 2, 1, 2), "runs: its own start");
     expect(zp_check(task, ZP_TASK_WORDS, 2, fresh(), ZP_CHECKED_WORDS) == 14 && is_checked(14, 0, 0, 0), "runs: no run 2");
     expect(zp_check(task, ZP_TASK_WORDS, (size_t)-1, fresh(), ZP_CHECKED_WORDS) == 14, "runs: any number of a run");
     expect(zp_check(task, 635, 2, fresh(), ZP_CHECKED_WORDS) == 12, "runs: 12 before 14");
@@ -356,9 +356,27 @@ static void editing_runs(void) {
            "runs: a need names an action");
 }
 
+/* Action 0 needs fact 0, makes 2 true and ends 1 and 4; action 1 needs 1 and makes 3 true. Both are run, 0 first, from facts
+ * 1 and 4 to facts 1 to 4. */
+static const uint8_t no_fact_0[] = {1, 5, 2, 0, 2, 1, 2, 4, 3, 1, 3, 2, 3, 3, 3, 4, 4, 0, 0, 4,
+                                    1, 1, 5, 0, 2, 5, 1, 3, 6, 0, 1, 6, 0, 4, 7, 0, 7, 1, 8};
+
+/* A step that can't run does nothing, and the next is tried (02, request 3). Here action 0 can't, so that at the end facts 1,
+ * 3 and 4 are there: open are its need and the goal 2. If it took all its effects, only its adds or only its deletes, if the
+ * goals were looked at as though it had run, or the run ended with it, the total would be 4, 1, 6, 3 and 3. */
+static void rejected_steps(void) {
+    expect(zp_read(no_fact_0, sizeof no_fact_0, fresh(), ZP_TASK_ANSWER_WORDS) == 0, "rejected: read");
+    memcpy(task, answer + 2, sizeof task);
+    expect(zp_check(task, ZP_TASK_WORDS, 0, fresh(), ZP_CHECKED_WORDS) == 0 && is_checked(0, 2, 1, 0),
+           "rejected: the step does nothing, and the next one runs");
+    lend()[ZP_AT_STARTS] |= 1;
+    expect(zp_check(lent, ZP_TASK_WORDS, 0, fresh(), ZP_CHECKED_WORDS) == 0 && is_checked(0, 4, 2, 1),
+           "rejected: with its need there it runs, and the next one can't");
+}
+
 static void listing_runs(void) {
     static const char text[] =
-        "task 4 3 3 4\nopen 2 3 1\nopen 0 0 0\nset 2\ndrop-delete 1 1\nadd-effect 0 2\nend\n";
+        "task 4 3 3 4\nopen 3 3 1\nopen 0 0 0\nset 2\ndrop-delete 1 1\nadd-effect 0 2\nend\n";
     uint8_t letters[ZP_LISTING_BYTES];
     expect(zp_listing(two_runs, 45, letters, sizeof letters, fresh(), ZP_REPLY_WORDS) == 0 &&
                is_reply(0, 0, sizeof text - 1) && memcmp(letters, text, sizeof text - 1) == 0,
@@ -394,6 +412,7 @@ int main(void) {
     checking_runs();
     editing_runs();
     listing_runs();
+    rejected_steps();
     printf(failures == 0 ? "c: every expectation holds\n" : "c: %d expectations failed\n", failures);
     return failures != 0;
 }

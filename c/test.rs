@@ -44,7 +44,7 @@ const FILE: [u8; 36] = [
 const STRAY: [u8; 36] = [
     1, 4, 3, 3, 2, 0, 3, 3, 4, 0, 0, 4, 1, 1, 4, 2, 1, 4, 2, 2, 5, 0, 1, 5, 2, 3, 6, 1, 1, 7, 0, 7, 1, 7, 3, 8,
 ];
-const TEXT: &str = "task 4 3 3 3\nopen 2 3 1\nset 2\ndrop-delete 1 1\nadd-effect 0 2\nend\n";
+const TEXT: &str = "task 4 3 3 3\nopen 3 3 1\nset 2\ndrop-delete 1 1\nadd-effect 0 2\nend\n";
 
 /// Where the needs of action 2 stand among a task's words.
 const NEEDS_OF_2: usize = 5;
@@ -63,7 +63,7 @@ fn files(task: &mut [u64; TASK_WORDS]) -> i32 {
     }
     failed += expect(record(&FILE, 8, &mut answer) == 0 && opens(&answer, &[0, 0, 4, 9, 2, 11]), "record");
     failed += expect(write_file(task, &mut room, &mut answer) && opens(&room, &FILE), "write");
-    failed += expect(check(task, 0, &mut answer) == 0 && opens(&answer, &[0, 0, 2, 3, 1]), "check");
+    failed += expect(check(task, 0, &mut answer) == 0 && opens(&answer, &[0, 0, 3, 3, 1]), "check");
     failed += expect(check(task, 1, &mut answer) == 14 && opens(&answer, &[14, 0, 0, 0, 0]), "check: no such run");
     failed += expect(read(&STRAY, &mut answer) == 5 && opens(&answer, &[5, 34, 0]), "read: the byte that is wrong");
     failed + expect(read(&FILE, &mut []) == ANSWER_TOO_SHORT, "an answer without room")
@@ -116,7 +116,7 @@ fn runs() -> i32 {
         *word = *read;
     }
     let as_read = task;
-    failed += expect(check(&task, 0, &mut answer) == 0 && opens(&answer, &[0, 0, 2, 3, 1]), "runs: check of run 0");
+    failed += expect(check(&task, 0, &mut answer) == 0 && opens(&answer, &[0, 0, 3, 3, 1]), "runs: check of run 0");
     failed += expect(check(&task, 1, &mut answer) == 0 && opens(&answer, &[0, 0, 0, 0, 0]), "runs: check of run 1");
     failed += expect(check(&task, 2, &mut answer) == 14, "runs: no run 2");
     failed += expect(open(&task, &mut table, &mut answer) == 0, "runs: open");
@@ -125,10 +125,30 @@ fn runs() -> i32 {
     failed + expect(edit(&mut task, GOAL, 2, 2, 0, &mut table, &mut answer) == 14, "runs: no goal of run 2")
 }
 
+/// Action 0 needs fact 0, makes 2 true and ends 1 and 4; action 1 needs 1 and makes 3 true. Both are run, 0 first, from facts 1
+/// and 4 to facts 1 to 4.
+const NO_FACT_0: [u8; 39] = [
+    1, 5, 2, 0, 2, 1, 2, 4, 3, 1, 3, 2, 3, 3, 3, 4, 4, 0, 0, 4, 1, 1, 5, 0, 2, 5, 1, 3, 6, 0, 1, 6, 0, 4, 7, 0, 7, 1, 8,
+];
+
+/// A step that can't run does nothing, and the next is tried (02, request 3): open are the need of action 0 and the goal 2. With
+/// its need there the step runs, and the next one can't.
+fn rejected_steps() -> i32 {
+    let (mut answer, mut table) = ([7; TASK_ANSWER_WORDS], [7; TABLE_NUMBERS]);
+    let mut task = [0; TASK_WORDS];
+    let mut failed = expect(read(&NO_FACT_0, &mut answer) == 0, "rejected: read");
+    for (word, read) in task.iter_mut().zip(answer.iter().skip(2)) {
+        *word = *read;
+    }
+    failed += expect(check(&task, 0, &mut answer) == 0 && opens(&answer, &[0, 0, 2, 1, 0]), "rejected: it does nothing");
+    failed += expect(edit(&mut task, START, 0, 0, 1, &mut table, &mut answer) == 0, "rejected: edit");
+    failed + expect(check(&task, 0, &mut answer) == 0 && opens(&answer, &[0, 0, 4, 2, 1]), "rejected: it runs")
+}
+
 #[no_mangle]
 pub extern "C" fn main() -> i32 {
     let mut task = [0; TASK_WORDS];
-    let failed = files(&mut task) + lists(&task) + session(&mut task) + runs();
+    let failed = files(&mut task) + lists(&task) + session(&mut task) + runs() + rejected_steps();
     say(if failed == 0 { "rust: every expectation holds\n" } else { "rust: expectations failed\n" });
     i32::from(failed != 0)
 }

@@ -80,7 +80,8 @@ size_t zp_read(const uint8_t *file, size_t file_len, uint64_t *answer, size_t an
 size_t zp_write(const uint64_t *task, size_t task_len, uint8_t *room, size_t room_len, uint64_t *answer,
                 size_t answer_len);
 
-/* The run check of the run with this number; 14 if the task has no such run. Answer: ZP_CHECKED_WORDS. */
+/* The run check of the run with this number; 14 if the task has no such run. It follows the controller (02, request 3): a step
+ * that can't run does nothing, and the next is tried. Answer: ZP_CHECKED_WORDS. */
 size_t zp_check(const uint64_t *task, size_t task_len, size_t run, uint64_t *answer, size_t answer_len);
 
 /* A list of repair numbers applied at once to the task, in its words. Answer: ZP_CHANGED_WORDS. */

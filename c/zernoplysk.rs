@@ -141,7 +141,8 @@ pub fn write(task: &[u64], room: &mut [u8], answer: &mut [u64]) -> usize {
     }
 }
 
-/// The run check of the run with this number, counted from 0; 14 if the task has no such run. Answer: `CHECKED_WORDS`.
+/// The run check of the run with this number, counted from 0; 14 if the task has no such run. It follows the controller (02,
+/// request 3): a step that can't run does nothing, and the next is tried. Answer: `CHECKED_WORDS`.
 pub fn check(task: &[u64], run: usize, answer: &mut [u64]) -> usize {
     // SAFETY: each pointer is good for its length, and what may be written is lent to this call alone.
     unsafe {
