@@ -12,7 +12,7 @@ use Rattle.solve.specs.Solving.{Solves}
 use Rattle.table.specs.Outcomes.{Outcome}
 use Rattle.table.specs.declared.Reply.{Reply}
 use Rattle.taskformat.specs.Reading.{ReadsFile}
-use Rattle.taskfile.specs.Records.{recordAt}
+use Rattle.records.specs.Records.{recordAt}
 use Rattle.taskwriter.specs.Writing.{written}
 use Rattle.taskwords.specs.Words.{taskIn, lentBack}
 use Rattle.taskwords.specs.Answers.{Answers, changedLength, replyLength, checkedLength, recordLength, answerMost, changedWords, replyWords, checkedWords, recordWords, taskAnswer}

@@ -3,6 +3,7 @@
 // is called, and the answer is 255. A task that a call changes is lent in and out.
 use apply::apply;
 use listing::listing;
+use records::record::record_at;
 use runcheck::check_run;
 use session::edit;
 use session::edits::edit_of;
@@ -10,7 +11,6 @@ use session::list;
 use session::open;
 use solve::solve;
 use taskfile::read;
-use taskfile::record::record_at;
 use taskwords::answer::give_back;
 use taskwords::answer::give_changed;
 use taskwords::answer::give_checked;

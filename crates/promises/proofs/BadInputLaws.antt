@@ -37,8 +37,8 @@ use Rattle.taskformat.proofs.FilesAreTasks.{accepted-exactly, accepted-read}
 use Rattle.taskformat.proofs.Places.{read-marks}
 use Rattle.taskformat.specs.Format.{fileOf}
 use Rattle.taskformat.specs.Reading.{Seen, noTask, faultsAt, faultAt, Marks, Reads, ReadsFile, faulty, good, ended, trailing}
-use Rattle.taskfile.specs.Records.{recordFault, recordAt, wholeRecord, refusedRecord}
-use Rattle.taskfile.specs.declared.record.Record.{Record}
+use Rattle.records.specs.Records.{recordFault, recordAt, wholeRecord, refusedRecord}
+use Rattle.records.specs.declared.record.Record.{Record}
 use Rattle.taskwriter.specs.Writing.{written}
 
 -- A number of document 01's table, or of 02's request 1.

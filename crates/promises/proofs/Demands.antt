@@ -60,12 +60,13 @@ use Rattle.table.specs.Strips.{Cells, Course, stateAt, Valid, AllValid}
 use Rattle.table.specs.Tasks.{cellsOf, courseOf, coursesOf, WorksFor, formed, WellFormed, withLimit}
 use Rattle.table.specs.declared.Reply.{Reply}
 use Rattle.table.specs.declared.Task.{Task}
-use Rattle.taskfile.proofs.Called.{record-asks-nothing, body-asks-nothing, ReadGives, read-gives, read-asks-nothing}
+use Rattle.records.proofs.Called.{record-asks-nothing, body-asks-nothing}
+use Rattle.taskfile.proofs.Called.{ReadGives, read-gives, read-asks-nothing}
 use Rattle.taskformat.proofs.FilesAreTasks.{accepted-read, one-task, cut-decides}
 use Rattle.taskformat.proofs.Unique.{reads-unique}
 use Rattle.taskfile.proofs.read.Reads as read
-use Rattle.taskfile.proofs.record.body_at.Reads as body-at
-use Rattle.taskfile.proofs.record.record_at.Reads as record-at
+use Rattle.records.proofs.record.body_at.Reads as body-at
+use Rattle.records.proofs.record.record_at.Reads as record-at
 use Rattle.taskformat.specs.Format.{fileOf}
 use Rattle.taskformat.specs.Reading.{acceptedRead}
 use Rattle.taskwriter.proofs.Called.{WriteGives, write-gives, write-asks-nothing}

@@ -21,9 +21,10 @@ use Rattle.table.proofs.Called.{FormedGives, formed-gives}
 use Rattle.table.specs.Tasks.{formed}
 use Rattle.table.specs.declared.Reply.{Reply}
 use Rattle.table.specs.declared.Task.{Task}
-use Rattle.taskfile.proofs.Called.{RecordGives, record-gives, BodyGives, body-gives, ReadGives, read-gives}
+use Rattle.records.proofs.Called.{RecordGives, record-gives, BodyGives, body-gives}
+use Rattle.taskfile.proofs.Called.{ReadGives, read-gives}
 use Rattle.taskformat.proofs.Unique.{reads-unique}
-use Rattle.taskfile.specs.Records.{recordAt, bodyOf}
+use Rattle.records.specs.Records.{recordAt, bodyOf}
 use Rattle.taskwriter.proofs.Called.{WriteGives, write-gives}
 use Rattle.taskwriter.specs.Writing.{written}
 use Rattle.promises.specs.Determined.{Determined}

@@ -24,7 +24,7 @@ use Rattle.session.specs.EditNumbers.{editOf}
 use Rattle.solve.proofs.SolveLaws.{solve-unique}
 use Rattle.table.specs.Outcomes.{Outcome}
 use Rattle.taskformat.proofs.Unique.{reads-unique}
-use Rattle.taskfile.specs.Records.{recordAt, bodyOf}
+use Rattle.records.specs.Records.{recordAt, bodyOf}
 use Rattle.taskwriter.specs.Writing.{written}
 use Rattle.promises.specs.Determined.{Determined}
 use Rattle.promises.proofs.Unique.{one-given, equation, open-determined, edit-determined}

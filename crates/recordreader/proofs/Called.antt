@@ -16,8 +16,8 @@ use prog.Routine.{Routine}
 use prog.Wp.{Heap}
 use Rattle.table.proofs.ContractLaws.{call-keeps}
 use Rattle.table.specs.Contracts.{Call, AsksNothing}
-use Rattle.taskfile.specs.Records.{recordAt, bodyOf}
-use Rattle.taskfile.specs.declared.record.Record.{Record}
+use Rattle.records.specs.Records.{recordAt, bodyOf}
+use Rattle.records.specs.declared.record.Record.{Record}
 use Rattle.recordreader.proofs.body as body
 use Rattle.recordreader.proofs.moved_on as moved-on
 use Rattle.recordreader.proofs.new as new

@@ -4,8 +4,8 @@ use mathlib.Core.Path.{_≡_}
 use Prim.Native.Nat.{ℕ}
 use borrow.Author.Tests.{eq-eqb, ne-eqb}
 use Rattle.table.specs.Refusals.{accepted}
-use Rattle.taskfile.specs.Records.{recordAt}
-use Rattle.taskfile.specs.declared.record.Record.{Record}
+use Rattle.records.specs.Records.{recordAt}
+use Rattle.records.specs.declared.record.Record.{Record}
 use Rattle.recordreader.specs.Places.{placeAfter}
 use Rattle.recordreader.specs.declared.Reader.{Reader}
 

@@ -23,7 +23,7 @@ use denote.Struct.Declared.{Declared}
 use denote.Struct.Laws as LL
 use denote.Struct.Rest.{all-own, own-open}
 use denote.Triple.Spec.{tripleOf}
-use Rattle.taskfile.proofs.record.record_at as record-at
+use Rattle.records.proofs.record.record_at as record-at
 use Rattle.recordreader.specs.declared.Reader.{Reader}
 use Rattle.recordreader.proofs.Reader as T
 use Rattle.recordreader.proofs.Reader.Laws as T′

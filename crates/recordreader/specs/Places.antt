@@ -4,7 +4,7 @@ use mathlib.Core.List.{List}
 use Prim.Native.Nat.{ℕ}
 use lib.Dec.{eqb}
 use Rattle.table.specs.Refusals.{accepted}
-use Rattle.taskfile.specs.Records.{recordAt}
+use Rattle.records.specs.Records.{recordAt}
 
 -- The next place of the record there; the same place where that record is refused.
 unfoldable pub placeAfter : List ℕ → ℕ → ℕ

@@ -1,12 +1,12 @@
 // Handing out one record after another from the lent file bytes (document 01, "The task file" and "What to write where"):
 // a thin struct of the file's slice and a place in it. The borrow checker covers no function over such a struct, so each
 // is proved by hand, takes the struct apart and leaves the work to a covered function on slice and place.
+use records::record::Record;
+use records::record::body_at;
+use records::record::record_at;
 use table::refusals;
-use taskfile::record::Record;
-use taskfile::record::body_at;
-use taskfile::record::record_at;
 ghost use mathlib.Core.Path.{_≡_};
-ghost use Rattle.taskfile.specs.Records.{recordAt, bodyOf};
+ghost use Rattle.records.specs.Records.{recordAt, bodyOf};
 ghost use Rattle.recordreader.specs.Places.{placeAfter};
 
 pub struct Reader<'a> {

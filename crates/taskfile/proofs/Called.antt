@@ -1,31 +1,13 @@
--- What a call of `record_at`, `body_at` or `read` gives, by the contract above the function and by nothing else, is what specs/Records and
--- specs/Reading say. Assumes nothing.
+-- What a call of `read` gives, by the contract above the function and by nothing else, is what specs/Reading (taskformat) says. Assumes
+-- nothing.
 use mathlib.Core.List.{List}
-use mathlib.Core.Path.{_≡_}
 use Prim.Native.Nat.{ℕ}
 use denote.Ref.{now}
 use Rattle.table.proofs.ContractLaws.{call-keeps}
 use Rattle.table.specs.Contracts.{Call, AsksNothing}
-use Rattle.taskfile.proofs.record.record_at.Reads as record-at
-use Rattle.taskfile.proofs.record.body_at.Reads as body-at
 use Rattle.taskfile.proofs.read.Reads as read
 use Rattle.taskformat.specs.Reading.{ReadsFile}
-use Rattle.taskfile.specs.Records.{recordAt, bodyOf}
 use Rattle.table.specs.declared.TaskReply.{TaskReply}
-use Rattle.taskfile.specs.declared.record.Record.{Record}
-
--- The record of the file s at a place is given as r; its body as the bytes b, wherever they stand.
-abbrev pub RecordGives : List ℕ → ℕ → Record → Type 0
-RecordGives s at r = Call {I = List ℕ × ℕ} {O = Record} record-at.Post (λ a. (now (a .0), a .1 .0)) (λ r b. r) (s, at) r
-
-pub record-gives : (s : List ℕ) (at : ℕ) (r : Record) → RecordGives s at r → r ≡ recordAt s at
-record-gives s at r = call-keeps (λ i r. r ≡ recordAt (i .0) (i .1)) (λ k a r b p. p) (s, at) r
-
-abbrev pub BodyGives : List ℕ → ℕ → List ℕ → Type 0
-BodyGives s at b = Call {I = List ℕ × ℕ} {O = List ℕ} body-at.Post (λ a. (now (a .0), a .1 .0)) (λ r b. now r) (s, at) b
-
-pub body-gives : (s : List ℕ) (at : ℕ) (b : List ℕ) → BodyGives s at b → b ≡ bodyOf s at
-body-gives s at b = call-keeps (λ i b. b ≡ bodyOf (i .0) (i .1)) (λ k a r b p. p) (s, at) b
 
 -- Reading the file s gives r.
 abbrev pub ReadGives : List ℕ → TaskReply → Type 0
@@ -33,12 +15,6 @@ ReadGives s r = Call {I = List ℕ} {O = TaskReply} read.Post (λ a. now (a .0))
 
 pub read-gives : (s : List ℕ) (r : TaskReply) → ReadGives s r → ReadsFile s r
 read-gives s r = call-keeps ReadsFile (λ k a r b p. p) s r
-
-pub record-asks-nothing : AsksNothing record-at.Pre
-record-asks-nothing k a = tt
-
-pub body-asks-nothing : AsksNothing body-at.Pre
-body-asks-nothing k a = tt
 
 pub read-asks-nothing : AsksNothing read.Pre
 read-asks-nothing k a = tt

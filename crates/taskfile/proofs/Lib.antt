@@ -1,4 +1,3 @@
 -- The laws of reading a task file, and what a call gives.
-pub mod RecordLaws
 pub mod ReaderLaws
 pub mod Called

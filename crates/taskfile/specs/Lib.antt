@@ -1,2 +1,2 @@
--- What the record reader gives, and the words of the inner functions.
-pub mod Records
+-- The words of the inner functions.
+pub mod Numbers

@@ -1,15 +1,13 @@
 // Reading the task file (document 01, "The task file"; 02, request 1): one pass over the records, with what they have said so far.
-mod fault;
-pub mod kinds;
-mod parts;
-pub mod record;
 mod seen;
 mod store;
 
-use fault::fault_at;
-use seen::Known;
+use records::fault::fault_at;
+use records::kinds;
+use records::known::Known;
+use records::known::last_run;
+use records::parts;
 use seen::after;
-use seen::last_run;
 use seen::nothing_known;
 use store::put_cell;
 use store::put_set;
@@ -25,7 +23,7 @@ use table::refusals;
 ghost use mathlib.Core.Path.{_≡_};
 ghost use Rattle.taskformat.specs.Lengths.{programRoom};
 ghost use Rattle.taskformat.specs.Reading.{ReadsFile, acceptedRead, refusedRead, noTask};
-ghost use Rattle.taskfile.specs.Records.{seenWith};
+ghost use Rattle.records.specs.Records.{seenWith};
 
 // How much of a file the program reads: longer than any file is, so that later bytes can't alter its answer (document 01,
 // "The listing"; 02, request 1).

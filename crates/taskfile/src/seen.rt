@@ -1,29 +1,19 @@
-// What the records so far have said in numbers, and what one good record more makes of them (document 01, "The task file"; 02,
-// request 1). The sets, the counts and the steps stand in arrays of their own (store).
-use crate::kinds;
-use crate::parts;
+// What one good record more makes of what the records so far have said in numbers (document 01, "The task file"; 02, request 1).
+// The sets, the counts and the steps stand in arrays of their own (store).
+use records::kinds;
+use records::known::Known;
+use records::known::last_run;
+use records::parts;
 ghost use mathlib.Core.Bool.{false, _&&_};
 ghost use mathlib.Core.Path.{_≡_};
-ghost use Prim.Native.Nat.{_-_};
 ghost use lib.Dec.{eqb, leb};
 ghost use lib.ListN.{getD};
 ghost use Rattle.table.specs.Refusals.{accepted};
 ghost use Rattle.table.specs.Sizes.{maxRuns};
 ghost use Rattle.taskformat.specs.Format.{runKind};
 ghost use Rattle.taskformat.specs.Reading.{noTask, nothingSeen, seenAfter, faultAt};
-ghost use Rattle.taskfile.specs.Records.{seenOf, knownOf, manyAfter};
-
-// All but the arrays: the sizes, how many runs are open, how many steps the one that was opened last has, and the last
-// record's kind and body.
-pub struct Known {
-    pub facts: usize,
-    pub actions: usize,
-    pub limit: usize,
-    pub runs: usize,
-    pub count: usize,
-    pub kind: usize,
-    pub body: usize,
-}
+ghost use Rattle.records.specs.Records.{seenOf};
+ghost use Rattle.taskfile.specs.Numbers.{knownOf, manyAfter};
 
 pub(crate) fn nothing_known() -> Known
     ensures { λ r. ⌜ r ≡ knownOf nothingSeen (noTask .runs .counts) ⌝ }
@@ -37,13 +27,6 @@ pub(crate) fn nothing_known() -> Known
         kind: kinds::NONE,
         body: 0,
     }
-}
-
-// The run that was opened last; 0 before the first.
-pub(crate) fn last_run(runs: usize) -> usize
-    ensures { λ r. ⌜ r ≡ runs - 1 ⌝ }
-{
-    if runs == 0 { 0 } else { runs - 1 }
 }
 
 // The sizes open the first run, and each kind 9 a further one.

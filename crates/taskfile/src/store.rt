@@ -1,6 +1,6 @@
 // What one good record stores in the arrays (document 01, "The task file"; 02, request 1): each in its own place, and every other
 // place is left alone.
-use crate::kinds;
+use records::kinds;
 use table::RUNS;
 use table::STEPS;
 ghost use mathlib.Core.Bool.{cond, true, false, _&&_};

@@ -7,7 +7,7 @@ use Rattle.runcheck.specs.declared.Checked.{Checked}
 use Rattle.table.specs.Sizes.{allSteps}
 use Rattle.table.specs.declared.Reply.{Reply}
 use Rattle.table.specs.declared.Task.{Task}
-use Rattle.taskfile.specs.declared.record.Record.{Record}
+use Rattle.records.specs.declared.record.Record.{Record}
 use Rattle.room.specs.Placing.{placed}
 use Rattle.taskwords.specs.Words.{taskWords, tableOut, runsOut}
 

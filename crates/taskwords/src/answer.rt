@@ -1,6 +1,7 @@
 // Answers into lent words, from the first word on: the number and the place first, then what the call gives; and a
 // changed task into the words that it was lent in. Past the room a word is only counted, so that none of these functions
 // asks anything of the answer's room.
+use records::record::Record;
 use runcheck::Checked;
 use table::ALL_STEPS;
 use table::RUNS;
@@ -9,7 +10,6 @@ use table::Runs;
 use table::Table;
 use table::Task;
 use table::refusals::ACCEPTED;
-use taskfile::record::Record;
 ghost use mathlib.Core.List.{[], _∷_};
 ghost use mathlib.Core.Path.{_≡_};
 ghost use Prim.Native.Nat.{_+_, _<_, _≤_};

@@ -1,7 +1,7 @@
 // Writing the task file (document 01, "The task file").
 mod file;
 mod kinds;
-mod records;
+mod sections;
 
 use file::whole;
 use table::Reply;

@@ -11,10 +11,11 @@ use Rattle.table.specs.Refusals.{Refusal, bytesAfterEnd}
 use Rattle.table.specs.Tasks.{Shaped}
 use Rattle.taskformat.specs.Format.{bodyLength}
 use Rattle.taskformat.specs.Reading.{Seen, Reads, faulty, good, ended, trailing, ReadsFile, kindAt, nextAt, faultAt, refusedRead}
-use Rattle.taskfile.specs.Records.{seenOf, seenWith}
+use Rattle.records.specs.Records.{seenOf, seenWith}
 use Rattle.table.specs.declared.TaskReply.{TaskReply}
 use Rattle.taskformat.proofs.Clear.{Clear, clear}
-use Rattle.taskfile.proofs.ReaderLaws.{numbers-decide, one-more, shaped-next, step-has-room}
+use Rattle.records.proofs.FaultLaws.{numbers-decide}
+use Rattle.taskfile.proofs.ReaderLaws.{one-more, shaped-next, step-has-room}
 use Rattle.taskfile.proofs.read.Statement.{statement}
 use Rattle.taskfile.proofs.read.Tie as tie
 

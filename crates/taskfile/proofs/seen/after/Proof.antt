@@ -4,7 +4,7 @@ use Prim.Native.Nat.{ℕ, _-_}
 use borrow.Author.Needs.{needs}
 use denote.Ref.{now}
 use lib.ListN.{getD}
-use Rattle.taskfile.specs.Records.{seenOf}
+use Rattle.records.specs.Records.{seenOf}
 use Rattle.taskformat.proofs.Clear.{clear}
 use Rattle.taskfile.proofs.ReaderLaws.{after-sizes, after-other}
 use Rattle.taskfile.proofs.seen.after.Statement.{statement}
