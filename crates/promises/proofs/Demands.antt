@@ -27,6 +27,7 @@ use Rattle.listing.proofs.listing.Reads as listing
 use Rattle.runcheck.proofs.Called.{CheckGives, check-gives, check-asks-nothing}
 use Rattle.runcheck.proofs.check_run.Reads as check
 use Rattle.runcheck.proofs.RuleLaws.{old-ruled, new-ruled, zero-same, report-same}
+use Rattle.runcheck.proofs.StateLaws.{checked-report}
 use Rattle.runcheck.proofs.Valid.{valid-zero, zero-valid, checked-zero-valid, valid-checked-zero}
 use Rattle.runcheck.specs.OpenNeeds.{totalOpen, openReport, refusedCheck, controllerAt}
 use Rattle.runcheck.specs.declared.Checked.{Checked}
@@ -165,8 +166,10 @@ pub record Solved (t : Task) (room : List ℕ) (o : Outcome) : Type 0 where
       → (r .number ≡ 0) × AllValid (cellsOf (r .task .table)) (coursesOf (r .task)) ×
       ((run : ℕ) → run < r .task .runs .many → (c : Checked) → CheckGives (r .task) run c → c .total ≡ 0)
 
--- 02, request 3, of the two rules of a run check: the old one, whose states are the model's, and the controller's, which the check follows.
-pub record BothRules (c : Cells) (r : Course) : Type 0 where
+-- 02, request 3, of a run check that gave `checked`, and of the two rules: the old one, whose states are the model's, and the controller's.
+pub record BothRules (c : Cells) (r : Course) (checked : Checked) : Type 0 where
+  -- "The check follows the controller"
+  pub follows : checked ≡ openReport c r (controllerAt c r)
   -- "the total is zero exactly when the run is valid, by the old rule and by the new"
   pub old-zero : (totalOpen c r (stateAt c r) ≡ 0) ↔ Valid c r
   pub new-zero : (totalOpen c r (controllerAt c r) ≡ 0) ↔ Valid c r
@@ -212,7 +215,8 @@ pub record Demand2 : Type 0 where
   pub nothing-open : (t : Task) → WellFormed t → (run : ℕ) → run < t .runs .many → (r : Checked) → CheckGives t run r
       → (r .total ≡ 0) ↔ Valid (cellsOf (t .table)) (courseOf (t .runs) run)
   -- by either rule (02, request 3)
-  pub both-rules : (t : Task) → WellFormed t → (run : ℕ) → run < t .runs .many → BothRules (cellsOf (t .table)) (courseOf (t .runs) run)
+  pub both-rules : (t : Task) → WellFormed t → (run : ℕ) → run < t .runs .many → (r : Checked) → CheckGives t run r
+      → BothRules (cellsOf (t .table)) (courseOf (t .runs) run) r
   -- 01: "001 permits kind 1 for every fact. Ours leaves out only repairs that do nothing, so least lists are the same", and so is what is
   -- over the limit or hopeless
   pub published-answer : (t : Task) (l : List ℕ) → First (WorksFor t) l ↔ First (WorksPublished (cellsOf (t .table)) (coursesOf t)) l
@@ -318,14 +322,15 @@ given-list t w room o g h =
           (done .0, done .1, λ run there c k. ap (λ (q : Checked). q .total) (check-gives (r .task) run c k) ∙ done .2 run there);
     }
 
--- Where no need and no goal is at F or above, the two rules are as they should be.
-rules : (c : Cells) (r : Course) → ((a f : ℕ) → c .facts ≤ f → c .needs a f ≡ false) → ((f : ℕ) → c .facts ≤ f → r .goal f ≡ false)
-    → BothRules c r
-rules c r needs goal =
+-- Where no need and no goal is at F or above, a check that follows the controller is as it should be.
+rules : (c : Cells) (r : Course) (checked : Checked) → checked ≡ openReport c r (controllerAt c r)
+    → ((a f : ℕ) → c .facts ≤ f → c .needs a f ≡ false) → ((f : ℕ) → c .facts ≤ f → r .goal f ≡ false) → BothRules c r checked
+rules c r checked e needs goal =
     let old = old-ruled c r in
     let new = new-ruled c r in
     let same = report-same c r (stateAt c r) (controllerAt c r) old new in
     record {
+      follows = e;
       old-zero = (zero-valid c r (stateAt c r) old needs goal, valid-zero c r (stateAt c r) old);
       new-zero = (zero-valid c r (controllerAt c r) new needs goal, valid-zero c r (controllerAt c r) new);
       each-zero = (zero-same c r (stateAt c r) (controllerAt c r) old new, zero-same c r (controllerAt c r) (stateAt c r) new old);
@@ -354,8 +359,9 @@ demand-two = record {
   nothing-open = λ t w run there r g.
       let e = ap (λ (x : Checked). x .total) (check-gives t run r g) in
       (λ h. checked-zero-valid t run w there (sym e ∙ h), λ v. e ∙ valid-checked-zero t run w there v);
-  both-rules = λ t w run there.
-      rules (cellsOf (t .table)) (courseOf (t .runs) run) (formed-inside t w .needs) (formed-inside t w .goal run there);
+  both-rules = λ t w run there r g.
+      rules (cellsOf (t .table)) (courseOf (t .runs) run) r (check-gives t run r g ∙ checked-report t run (well-formed t w) there)
+      (formed-inside t w .needs) (formed-inside t w .goal run there);
   published-answer = λ t. published-first (cellsOf (t .table)) (coursesOf t);
   published-verdict = λ t. published-within (cellsOf (t .table)) (coursesOf t);
 }

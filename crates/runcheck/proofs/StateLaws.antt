@@ -46,7 +46,7 @@ state-next t w run i state h is-state f =
 -- ---- what is answered for a run of a well-formed task
 
 module _ (t : Task) (run : ℕ) (h : formed t ≡ true) (there : run < t .runs .many) where
-  checked-report : checked t run ≡ openReport (cellsOf (t .table)) (courseOf (t .runs) run) (statesOf t run)
+  pub checked-report : checked t run ≡ openReport (cellsOf (t .table)) (courseOf (t .runs) run) (statesOf t run)
   unfolding checked
   checked-report = rw (h, lt-ltb run (t .runs .many) there)
 
