@@ -1,5 +1,4 @@
 -- `runcheck::after_step` meets its contract: by its test, which is the definition's, and by what `remove` and `join` ensure. Assumes nothing.
--- (No need is called by its name, so that the edits of what it gives are refused for the state that they give.)
 use borrow.Author.Needs.{needs}
 use borrow.Author.Tests.{ne-eqb}
 use Rattle.runcheck.proofs.after_step.Statement.{statement}
