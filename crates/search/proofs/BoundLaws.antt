@@ -14,12 +14,12 @@ use Rattle.table.specs.Strips.{Courses, AllRight}
 use Rattle.table.proofs.FlagLaws.{is-false, or-cases, or-left, or-right}
 use Rattle.table.proofs.RepairLaws.{right-more}
 use Rattle.search.specs.declared.Column.{Column}
-use Rattle.search.specs.declared.Choice.{Choice}
-use Rattle.search.specs.Choices.{inChoice, numbersIn, listOf, codeNumber, Contains, Apart}
+use Rattle.choices.specs.declared.Choice.{Choice}
+use Rattle.choices.specs.Choices.{inChoice, numbersIn, listOf, codeNumber, Contains, Apart}
 use Rattle.search.specs.Columns.{cellsIn}
 use Rattle.search.specs.Searching.{Complete, Sought, Lacks, Among, OutFor, Reached}
-use Rattle.search.specs.Trying.{withRepair, bothOf, withoutThose, CodesBelow, NextIn}
-use Rattle.search.proofs.ChoiceLaws.{listOf-only, listOf-members, listOf-has, in-both, in-without-cases, with-cases, with-length, contains-with}
+use Rattle.choices.specs.Trying.{withRepair, bothOf, withoutThose, CodesBelow, NextIn}
+use Rattle.choices.proofs.ChoiceLaws.{listOf-only, listOf-members, listOf-has, in-both, in-without-cases, with-cases, with-length, contains-with}
 use Rattle.search.proofs.SearchLaws.{no-more}
 
 -- A list's share in the sets so far: the candidate s with n repairs more, all of them in `passed`, that the list has.

@@ -6,40 +6,26 @@ use Prim.Native.Nat.{ℕ, _+_, _*_, _<_, _≤_}
 use native.Mathlib.Omega.{arith}
 use lib.ListN.{length, getD}
 use borrow.Author.Count.{below-none, below-more}
-use borrow.Author.Tests.{lt-ltb, eq-eqb, not-true}
+use borrow.Author.Tests.{not-true}
 use Rattle.facts.specs.Sets.{has, joined, removed}
 use Rattle.facts.proofs.Laws.{has-joined, has-removed}
-use Rattle.table.specs.Sizes.{maxActions, maxSteps, kinds}
+use Rattle.table.specs.Sizes.{maxActions, maxSteps}
 use Rattle.table.specs.Strips.{Course, Right, stateAt}
-use Rattle.table.specs.Repairs.{dropDelete, addEffect, dropNeed, chosen}
+use Rattle.table.specs.Repairs.{dropDelete, addEffect, dropNeed}
 use Rattle.table.proofs.FlagLaws.{and-left, and-right, and-both, is-false}
-use Rattle.table.proofs.RepairNumbers.{fact-back, kind-back, action-back}
 use Rattle.table.proofs.RunLaws.{stateAt-first, stateAt-next}
+use Rattle.choices.proofs.MaskLaws.{chosen-has}
 use Rattle.search.specs.declared.Column.{Column}
-use Rattle.search.specs.declared.Choice.{Choice}
+use Rattle.choices.specs.declared.Choice.{Choice}
 use Rattle.search.specs.declared.narrow.Place.{Place}
-use Rattle.search.specs.Choices.{inChoice, numbersIn, codeOf, codeKind, codeAction}
 use Rattle.search.specs.Columns.{cellsIn, courseIn, ColumnFormed}
 use Rattle.search.specs.Gaps.{Gap, missing-at, nowhere, Noted, stays, moves}
-use Rattle.search.specs.Trying.{maskIn}
 use Rattle.search.specs.Searching.{cellsWith, NeededAt, by-step, by-goal, Missing}
 
 -- A flag that is not false is true.
 not-false-true : (a : Bool) → (a ≡ false → ⊥) → a ≡ true
 not-false-true true h = refl
 not-false-true false h = absurd (h refl)
-
-pub chosen-has : (f : ℕ) (s : Choice) (k a : ℕ) → k < kinds → a < maxActions → chosen (numbersIn f s) f k a ≡ has (maskIn k s) a
-unfolding chosen numbersIn inChoice
-chosen-has f s k a hk ha =
-    rw (lt-ltb a maxActions ha, fact-back f k a hk ha, kind-back f k a hk ha, action-back f k a hk ha, eq-eqb f f refl)
-
-pub inChoice-has : (s : Choice) (k a : ℕ) → a < maxActions → inChoice s (codeOf k a) ≡ has (maskIn k s) a
-unfolding inChoice
-inChoice-has s k a ha =
-    let kind : codeKind (codeOf k a) ≡ k = omega arith in
-    let action : codeAction (codeOf k a) ≡ a = omega arith in
-    rw (kind, action)
 
 module _ (col : Column) (s : Choice) (a : ℕ) (ha : a < maxActions) where
   pub needs-mask : cellsWith col s .needs a (col .fact) ≡ has (removed (col .needs) (s .needs)) a

@@ -21,14 +21,14 @@ use Rattle.table.proofs.RepairNumbers.{inside-permits, permitted-number}
 use Rattle.table.proofs.RepairLaws.{repairable-delete, repairable-add, repairable-need, repaired-repairable}
 use Rattle.table.proofs.RunLaws.{stateAt-first, stateAt-next}
 use Rattle.search.specs.declared.Column.{Column}
-use Rattle.search.specs.declared.Choice.{Choice}
-use Rattle.search.specs.Choices.{inChoice, codeOf, codeKind, codeAction, codeNumber, numbersIn, Apart}
+use Rattle.choices.specs.declared.Choice.{Choice}
+use Rattle.choices.specs.Choices.{inChoice, codeOf, codeKind, codeAction, codeNumber, numbersIn, Apart}
 use Rattle.search.specs.Columns.{cellsIn, KeepsIn, RunFormed}
 use Rattle.search.specs.Gaps.{LastDelete, Named, need-at, that-delete, add-between, ConflictAt, ActionsOf}
 use Rattle.search.specs.Searching.{cellsWith, NeededAt, by-step, by-goal, Missing, Allowed}
-use Rattle.search.specs.Trying.{maskIn}
-use Rattle.search.proofs.ChoiceLaws.{find-code}
-use Rattle.search.proofs.ColumnLaws.{chosen-has, inChoice-has}
+use Rattle.choices.specs.Trying.{maskIn}
+use Rattle.choices.proofs.ChoiceLaws.{find-code}
+use Rattle.choices.proofs.MaskLaws.{chosen-has, inChoice-has}
 
 -- ---- looking back
 

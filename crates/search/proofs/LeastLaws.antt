@@ -19,13 +19,13 @@ use Rattle.table.proofs.FlagLaws.{is-false, both, and-both}
 use Rattle.table.proofs.OrderLaws.{isIn-none, ≼-trans, ≼-length, first-difference-first}
 use Rattle.table.proofs.RepairLaws.{right-more}
 use Rattle.search.specs.declared.Column.{Column}
-use Rattle.search.specs.declared.Choice.{Choice}
-use Rattle.search.specs.Choices.{nothing, inChoice, numbersIn, listOf, codeNumber, Contains, Apart}
+use Rattle.choices.specs.declared.Choice.{Choice}
+use Rattle.choices.specs.Choices.{nothing, inChoice, numbersIn, listOf, codeNumber, Contains, Apart}
 use Rattle.search.specs.Columns.{cellsIn, KeepsIn}
 use Rattle.search.specs.Searching.{cellsWith, Allowed, Among, SomeOf, Agree, Earlier, Short, Shortest}
-use Rattle.search.specs.Trying.{sharedBy, withoutThose, CodesBelow, NextIn}
+use Rattle.choices.specs.Trying.{sharedBy, withoutThose, CodesBelow, NextIn}
 use Rattle.search.specs.Views.{Fullest}
-use Rattle.search.proofs.ChoiceLaws.{in-list, in-shared, in-without, nothing-list, nothing-contained, nothing-missed, nothing-apart, find-code}
+use Rattle.choices.proofs.ChoiceLaws.{in-list, in-shared, in-without, nothing-list, nothing-contained, nothing-missed, nothing-apart, find-code}
 use Rattle.search.proofs.SearchLaws.{contained-first, right-keeps}
 
 -- ---- some shortest list
@@ -264,7 +264,7 @@ module _ (col : Column) (rs : Courses) (best : Choice) (from code : ℕ) (leads 
             before-at col rs (listOf (col .fact) r) best-list later (new .keeps) (leads .keeps)
             (omega (arith, new .short, leads .least (listOf (col .fact) r) (new .keeps))) agree
             (in-list (col .fact) r later inside ∙ after .present inside)
-            (in-list (col .fact) best later inside ∙ next .absent later next-earlier (after .after))
+            (in-list (col .fact) best later inside ∙ next .absent later next-earlier (omega (arith, inside, after .after)))
 
         pick : (l : List ℕ) → Agree (col .fact) from l best-list ⊎ (best-list ≼ l) → Agree (col .fact) from l (listOf (col .fact) r) ⊎ (listOf (col .fact) r ≼ l)
         pick l (inl same) = inl (λ c h low. same c h low ∙ sym (new .same c h low))
@@ -336,10 +336,6 @@ ahead-of from code = (perFact + 1) * (perFact - from) + code
 
 module _ (col : Column) (rs : Courses) (best found : Choice) (any : Bool) (from code : ℕ) (leads : Leads col rs best from) (next : NextIn best from code) (inside : code < perFact)
     (tried : SomeOf (col .fact) (Earlier col rs best from code) any found) (best′ : Choice) (from′ : ℕ) where
-  pub turned-within : Turned best found any from code best′ from′ → from′ ≤ perFact
-  turned-within (inl w) = omega (arith, w .2, next .after)
-  turned-within (inr w) = omega (arith, w .2)
-
   module _ (code′ : ℕ) (next′ : NextIn best′ from′ code′) where
     new : any ≡ true → Earlier col rs best from code (listOf (col .fact) found)
     new e = subst (λ t. SomeOf (col .fact) (Earlier col rs best from code) t found) e tried

@@ -1,10 +1,8 @@
 -- What other crates cite of `search`.
-pub mod ChoiceLaws
 pub mod ColumnLaws
 pub mod ViewLaws
 pub mod BoundLaws
 pub mod ConflictLaws
-pub mod MaskLaws
 pub mod SearchLaws
 pub mod RowLaws
 pub mod LeastLaws

@@ -18,15 +18,15 @@ use Rattle.table.proofs.AnswerLaws.{first-same}
 use Rattle.table.proofs.GatherLaws.{gather-none, gather-part, gather-step, passing}
 use Rattle.table.proofs.JoinLaws.{keepsFor-outside}
 use Rattle.table.proofs.RepairNumbers.{numbered-inside}
-use Rattle.search.specs.Choices.{codeKind, codeAction, inChoice, listOf, codeNumber}
+use Rattle.choices.specs.Choices.{codeKind, codeAction, inChoice, listOf, codeNumber}
 use Rattle.search.specs.Columns.{coursesIn, KeepsIn}
 use Rattle.search.specs.Rows.{rowOf, rowWith, rowOver, rowHopeless, RightRow}
 use Rattle.search.specs.Searching.{Rightness, Shortest}
-use Rattle.search.specs.Trying.{NextIn}
+use Rattle.choices.specs.Trying.{NextIn}
 use Rattle.search.specs.Views.{Shows, Fullest}
-use Rattle.search.specs.declared.Choice.{Choice}
+use Rattle.choices.specs.declared.Choice.{Choice}
 use Rattle.search.specs.declared.Column.{Column}
-use Rattle.search.proofs.ChoiceLaws.{codes, codes-length, weight}
+use Rattle.choices.proofs.ChoiceLaws.{codes, codes-length, weight}
 use Rattle.search.proofs.ViewLaws.{keeps-in, in-keeps, fullest-right, fullest-keeps}
 
 -- ---- writing a list repair by repair
@@ -59,9 +59,9 @@ module _ (f : ℕ) (s : Choice) where
   bare-below row e = e
 
   -- No chosen code between: the same row.
-  passed : (i k : ℕ) → NextIn s i k → rowBelow k ≡ rowBelow i
+  passed : (i k : ℕ) → i ≤ perFact → NextIn s i k → rowBelow k ≡ rowBelow i
   unfolding passing
-  passed i k next = ap (λ (l : List ℕ). rowOf (found l)) none
+  passed i k inside next = ap (λ (l : List ℕ). rowOf (found l)) none
     where
       none : codes (inChoice s) f k ≡ codes (inChoice s) f i
       none =
@@ -71,7 +71,7 @@ module _ (f : ℕ) (s : Choice) where
 
   -- Up to the first chosen code the row is bare.
   pub below-first : (row : List ℕ) (k : ℕ) → row ≡ (0 ∷ replicate maxRow unused) → NextIn s 0 k → row ≡ rowBelow k
-  below-first row k e next = bare-below row e ∙ sym (passed 0 k next)
+  below-first row k e next = bare-below row e ∙ sym (passed 0 k (omega arith) next)
 
   announced : (i : ℕ) (row : List ℕ) → row ≡ rowBelow i → getD row 0 0 ≡ length (codes (inChoice s) f i)
   unfolding rowOf
@@ -86,9 +86,9 @@ module _ (f : ℕ) (s : Choice) where
       omega (arith, announced i row e, codes-length (inChoice s) f i, gather-part (λ code. piece (inChoice s code) (codeNumber f code ∷ [])) (suc i) perFact (omega arith))
 
   -- One chosen code more, and on to the next.
-  pub below-more : (i k : ℕ) (row more : List ℕ) → row ≡ rowBelow i → inChoice s i ≡ true → getD row 0 0 < maxRow
+  pub below-more : (i k : ℕ) (row more : List ℕ) → i < perFact → row ≡ rowBelow i → inChoice s i ≡ true → getD row 0 0 < maxRow
       → more ≡ rowWith row (codeNumber f i) → NextIn s (i + 1) k → more ≡ rowBelow k
-  below-more i k row more e chosen fits made next = made ∙ grown ∙ one-more ∙ sym (passed (i + 1) k next)
+  below-more i k row more inside e chosen fits made next = made ∙ grown ∙ one-more ∙ sym (passed (i + 1) k (omega arith) next)
     where
       room : length (codes (inChoice s) f i) < maxRow
       room = omega (arith, announced i row e, fits)

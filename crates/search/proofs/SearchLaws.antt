@@ -14,13 +14,13 @@ use Rattle.table.specs.Strips.{Course, Courses, one, Right, AllRight, stateAt}
 use Rattle.table.proofs.FlagLaws.{is-false, by-order}
 use Rattle.table.proofs.OrderLaws.{compared, ≼-length, subset-first}
 use Rattle.search.specs.declared.Column.{Column}
-use Rattle.search.specs.declared.Choice.{Choice}
-use Rattle.search.specs.Choices.{inChoice, listOf, codeNumber, Contains, Apart, Shares}
+use Rattle.choices.specs.declared.Choice.{Choice}
+use Rattle.choices.specs.Choices.{inChoice, listOf, codeNumber, Contains, Apart, Shares}
 use Rattle.search.specs.Columns.{cellsIn, KeepsIn}
 use Rattle.search.specs.Searching.{cellsWith, NeededAt, Missing, Allowed, Conflicts, Lacks, Rightness, Complete, LackingBelow, Lacking, Among, SomeOf, OutFor}
 use Rattle.search.specs.Gaps.{Gap}
-use Rattle.search.specs.Trying.{withRepair, withoutThose, NextIn, Sharing}
-use Rattle.search.proofs.ChoiceLaws.{listOf-ascending, listOf-from, listOf-has, listOf-members, list-misses, contains-list, in-without-cases, left-over, with-has, with-keeps, with-other, with-cases, with-length, contains-with, contains-without}
+use Rattle.choices.specs.Trying.{withRepair, withoutThose, NextIn, Sharing}
+use Rattle.choices.proofs.ChoiceLaws.{listOf-ascending, listOf-from, listOf-has, listOf-members, list-misses, contains-list, in-without-cases, left-over, with-has, with-keeps, with-other, with-cases, with-length, contains-with, contains-without}
 
 -- ---- a candidate and its list
 

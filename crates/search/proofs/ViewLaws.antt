@@ -23,12 +23,12 @@ use Rattle.table.proofs.RepairLaws.{right-more}
 use Rattle.table.proofs.RunLaws.{SameCourseAt, SameCoursesAt, sameCourses-sym}
 use Rattle.table.proofs.RepairNumbers.{permitted-permits}
 use Rattle.search.proofs.SearchLaws.{right-keeps}
-use Rattle.search.specs.Choices.{inChoice, numbersIn, listOf, codeNumber, codeKind, codeAction}
+use Rattle.choices.specs.Choices.{inChoice, numbersIn, listOf, codeNumber, codeKind, codeAction}
 use Rattle.search.specs.Columns.{cellsIn, courseIn, coursesIn, KeepsIn, ColumnFormed}
 use Rattle.search.specs.Searching.{cellsWith}
 use Rattle.search.specs.Views.{Gathers, GathersBelow, Shows, Fullest}
 use Rattle.search.specs.declared.Column.{Column}
-use Rattle.search.specs.declared.Choice.{Choice}
+use Rattle.choices.specs.declared.Choice.{Choice}
 
 -- ---- gathering a mask of actions
 

@@ -8,9 +8,9 @@ use Rattle.table.specs.Repairs.{dropDelete, addEffect, dropNeed}
 use Rattle.table.specs.Sizes.{perFact}
 use Rattle.table.specs.Strips.{Course, one, Right}
 use Rattle.search.specs.declared.Column.{Column}
-use Rattle.search.specs.declared.Choice.{Choice}
+use Rattle.choices.specs.declared.Choice.{Choice}
 use Rattle.search.specs.declared.narrow.Place.{Place}
-use Rattle.search.specs.Choices.{inChoice, codeOf}
+use Rattle.choices.specs.Choices.{inChoice, codeOf}
 use Rattle.search.specs.Searching.{cellsWith, Missing, Conflicts}
 
 -- A place where the fact is missing, the place after the last step standing for the goal; or the one after that, and

@@ -10,8 +10,8 @@ use Rattle.table.specs.Sizes.{perFact}
 use Rattle.table.specs.Tasks.{startOf, goalOf}
 use Rattle.table.specs.declared.Task.{Task}
 use Rattle.search.specs.declared.Column.{Column}
-use Rattle.search.specs.declared.Choice.{Choice}
-use Rattle.search.specs.Choices.{inChoice, codeNumber}
+use Rattle.choices.specs.declared.Choice.{Choice}
+use Rattle.choices.specs.Choices.{inChoice, codeNumber}
 use Rattle.search.specs.Columns.{cellsIn}
 
 -- The actions whose set has fact f.

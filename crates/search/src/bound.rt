@@ -1,14 +1,13 @@
 // How far the lists with a candidate reach: sets of repairs that share none, each lacking to the candidate with the earlier ones
 // put in, cost a repair each.
-use crate::Choice;
 use crate::Column;
 use crate::Found;
-use crate::choices;
 use crate::lack;
+use choices::Choice;
 use table::repair::Repair;
 ghost use Prim.Native.Nat.{_+_};
 ghost use lib.ListN.{length};
-ghost use Rattle.search.specs.Choices.{listOf, Apart};
+ghost use Rattle.choices.specs.Choices.{listOf, Apart};
 ghost use Rattle.search.specs.Columns.{ColumnFormed, coursesIn};
 ghost use Rattle.search.specs.Searching.{Allowed, Reached};
 

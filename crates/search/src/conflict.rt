@@ -1,8 +1,8 @@
 // The conflict of a candidate at a place where its fact is missing: repairs of which every working list has one, those
 // that contain the candidate and all others (document 01, "A conflict"; source document 000).
-use crate::Choice;
 use crate::Column;
 use crate::gap;
+use choices::Choice;
 use table::STEPS;
 ghost use mathlib.Core.Path.{_≡_};
 ghost use Prim.Native.Nat.{_+_, _-_, _<_, _≤_, min};

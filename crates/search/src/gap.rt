@@ -1,7 +1,7 @@
 // A column's cells with a candidate applied, and the first place of the run where the fact is missing (document 01, "A
 // conflict": "a fact f is missing at step j").
-use crate::Choice;
 use crate::Column;
+use choices::Choice;
 use table::STEPS;
 ghost use mathlib.Core.Path.{_≡_};
 ghost use Prim.Native.Nat.{_<_};

@@ -1,12 +1,11 @@
 // What a candidate lacks: repairs of which every list that is looked for has one, and the candidate none. A list that is looked
 // for keeps the fact right in every run, has none of the repairs that are out, and has one of those that are wanted.
-use crate::Choice;
 use crate::Column;
 use crate::Found;
-use crate::choices;
 use crate::conflict;
 use crate::gap;
 use crate::narrow;
+use choices::Choice;
 ghost use Prim.Native.Nat.{_+_, _<_};
 ghost use Rattle.search.specs.Columns.{ColumnFormed, coursesIn};
 ghost use Rattle.search.specs.Searching.{Allowed, Rightness, Complete, LackingBelow, Lacking};

@@ -1,17 +1,16 @@
 // The least list of one fact: first how long it is, by any list of that length, then number by number which it is. Very many
 // lists may be as short; only those are looked for that come before the one found so far.
-use crate::Choice;
 use crate::Column;
 use crate::Found;
-use crate::choices;
 use crate::lack;
 use crate::search;
 use crate::view;
+use choices::Choice;
 use table::ROW;
 use table::repair::Repair;
 ghost use mathlib.Core.Bool.{true};
 ghost use Rattle.table.specs.Answer.{First};
-ghost use Rattle.search.specs.Choices.{listOf};
+ghost use Rattle.choices.specs.Choices.{listOf};
 ghost use Rattle.search.specs.Columns.{ColumnFormed, coursesIn, KeepsIn};
 ghost use Rattle.search.specs.Searching.{SomeOf, Earlier, Short, Shortest};
 

@@ -1,7 +1,6 @@
 // The least repair list of one fact: its row of the session table (document 01, "The session table" and the conflict of
 // "The model and its run").
 mod bound;
-mod choices;
 mod conflict;
 mod gap;
 mod lack;
@@ -11,6 +10,7 @@ pub mod row;
 mod search;
 mod view;
 
+use choices::Choice;
 use table::RUNS;
 
 // One fact's cells: the actions that need it, add it and delete it, as masks of actions; the runs that have it at the start and
@@ -26,13 +26,6 @@ pub struct Column {
     pub start: u64,
     pub goal: u64,
     pub counts: [usize; RUNS],
-}
-
-// A set of repairs of one fact: the actions whose delete is dropped, that get the effect, whose need is dropped.
-pub struct Choice {
-    pub deletes: u64,
-    pub adds: u64,
-    pub needs: u64,
 }
 
 // A set of repairs, if there is any that is as asked for.

@@ -1,9 +1,8 @@
 // Of the places where the fact is missing, one with the fewest repairs left. Every such place has a conflict, and document 01
 // does not say at which to look: which one it is, is for speed alone, and what is promised is that the fact is missing there.
-use crate::Choice;
 use crate::Column;
-use crate::choices;
 use crate::gap;
+use choices::Choice;
 use table::STEPS;
 ghost use Prim.Native.Nat.{_<_};
 ghost use Rattle.search.specs.Columns.{ColumnFormed, courseIn};

@@ -1,9 +1,8 @@
 // A fact's row of the session table (document 01, "The session table").
-use crate::Choice;
-use crate::choices;
 use crate::lack;
 use crate::least;
 use crate::view;
+use choices::Choice;
 use table::ROW_PLACES;
 use table::Task;
 use table::UNUSED;
@@ -15,7 +14,7 @@ ghost use lib.ListN.{length, getD, replicate};
 ghost use Rattle.table.specs.Answer.{found};
 ghost use Rattle.table.specs.Sizes.{maxFacts, maxRow, perFact, unused};
 ghost use Rattle.table.specs.Tasks.{WellFormed};
-ghost use Rattle.search.specs.Choices.{codeNumber, listOf};
+ghost use Rattle.choices.specs.Choices.{codeNumber, listOf};
 ghost use Rattle.search.specs.Rows.{rowOf, rowWith, RightRow};
 
 // First numbers that announce no list.

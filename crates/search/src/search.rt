@@ -1,17 +1,16 @@
 // The search for a list of one fact's repairs: a candidate is tested, and where it fails, each repair of what it lacks is tried
 // in turn (document 01: "When a candidate still fails .."). A repair that was tried is out for those after it, so that no set
 // of repairs is tried twice, and so is what no list can have that is short enough.
-use crate::Choice;
 use crate::Column;
 use crate::Found;
 use crate::bound;
-use crate::choices;
 use crate::lack;
+use choices::Choice;
 use table::repair::Repair;
 ghost use mathlib.Core.Bool.{false};
 ghost use Prim.Native.Nat.{_+_, _<_};
 ghost use lib.ListN.{length};
-ghost use Rattle.search.specs.Choices.{listOf, Apart};
+ghost use Rattle.choices.specs.Choices.{listOf, Apart};
 ghost use Rattle.search.specs.Columns.{ColumnFormed, coursesIn};
 ghost use Rattle.search.specs.Searching.{Allowed, Complete, Among, SomeOf};
 

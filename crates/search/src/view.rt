@@ -1,6 +1,6 @@
 // One fact's column of a task, and the fullest choice of a column's repairs.
-use crate::Choice;
 use crate::Column;
+use choices::Choice;
 use table::ACTIONS;
 use table::RUNS;
 use table::Task;

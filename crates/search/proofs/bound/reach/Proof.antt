@@ -5,11 +5,11 @@ use Prim.Native.Nat.{_+_, _-_, _≤_}
 use native.Mathlib.Omega.{arith}
 use borrow.Author.Tests.{not-false}
 use lib.ListN.{length}
-use Rattle.search.specs.Choices.{listOf}
+use Rattle.choices.specs.Choices.{listOf}
 use Rattle.table.specs.Strips.{Courses}
 use Rattle.search.specs.Columns.{coursesIn}
 use Rattle.search.specs.Searching.{Lacks, Lacking}
-use Rattle.search.specs.Trying.{NextIn}
+use Rattle.choices.specs.Trying.{NextIn}
 use Rattle.search.proofs.BoundLaws.{Shared, shared-none, shared-more, shared-reached, none-left, out-same}
 use Rattle.search.proofs.bound.reach.Statement.{statement}
 use Rattle.search.proofs.bound.reach.Tie as tie

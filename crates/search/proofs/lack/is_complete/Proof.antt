@@ -2,7 +2,7 @@
 use mathlib.Core.Path.{subst}
 use borrow.Author.Tests.{not-true, not-false}
 use Rattle.search.specs.Columns.{coursesIn}
-use Rattle.search.specs.Trying.{Sharing}
+use Rattle.choices.specs.Trying.{Sharing}
 use Rattle.search.proofs.SearchLaws.{complete-so}
 use Rattle.search.proofs.lack.is_complete.Statement.{statement}
 use Rattle.search.proofs.lack.is_complete.Tie as tie

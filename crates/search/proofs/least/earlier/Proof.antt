@@ -3,7 +3,7 @@ use mathlib.Core.Path.{_≡_}
 use Prim.Native.Nat.{_+_, _-_, _≤_}
 use native.Mathlib.Omega.{arith}
 use lib.ListN.{length}
-use Rattle.search.specs.Choices.{listOf}
+use Rattle.choices.specs.Choices.{listOf}
 use Rattle.search.specs.Columns.{coursesIn}
 use Rattle.search.proofs.LeastLaws.{Asked, asked-so, asked-allowed, asked-wanted, asked-apart, asked-size, some-earlier}
 use borrow.Author.Needs.{needs}

@@ -2,10 +2,11 @@
 -- code falls, or `from` grows.
 use mathlib.Core.Logic.{inl, inr, ⊎-elim}
 use native.Mathlib.Omega.{arith}
+use borrow.Author.Needs.{needs}
 use Rattle.table.specs.Strips.{Courses}
 use Rattle.search.specs.Columns.{coursesIn}
-use Rattle.search.specs.Trying.{NextIn}
-use Rattle.search.proofs.LeastLaws.{Leads, Turned, ahead-of, leads-start, leads-end, turned-within, turned-leads, turned-falls}
+use Rattle.choices.specs.Trying.{NextIn}
+use Rattle.search.proofs.LeastLaws.{Leads, Turned, ahead-of, leads-start, leads-end, turned-leads, turned-falls}
 use Rattle.search.proofs.least.first_of.Statement.{statement}
 use Rattle.search.proofs.least.first_of.Tie as tie
 
@@ -29,7 +30,7 @@ turned : (c : tie.Joined1 Inv-loop μ-loop)
 turned c = ⊎-elim (λ w. inl (w .0 .taken, w .2, w .3)) (λ w. inr (w .0 .left, w .1, w .2)) (c .if1 .came)
 
 next-in-requires : tie.Need-next-in-requires Inv-loop μ-loop
-next-in-requires c κs = omega arith
+next-in-requires c κs = search needs
 
 loop-holds : tie.Need-loop-holds Inv-loop μ-loop
 loop-holds c =
@@ -45,12 +46,7 @@ add-from : tie.Need-add-from Inv-loop μ-loop
 add-from c = omega arith
 
 next-in-requires-2 : tie.Need-next-in-requires-2 Inv-loop μ-loop
-next-in-requires-2 c κs =
-    let tested = c .before in
-    let here = tested .before .before in
-    turned-within (start here .args .col) (runs here) (here .loop .best) (tested .earlier .result .choice) (tested .earlier .result .any) (here .loop .from)
-    (here .loop .code) (here .loop .inv .0) (here .loop .inv .1) (tested .before .loop-test .taken) (tested .earlier .ensures) (c .if1 .best) (c .if1 .from)
-    (turned c)
+next-in-requires-2 c κs = search needs
 
 loop-less : tie.Need-loop-less Inv-loop μ-loop
 loop-less c =

@@ -5,7 +5,7 @@ use Prim.Native.Nat.{_<_, _≤_, _-_}
 use native.Mathlib.Omega.{arith}
 use borrow.Author.Needs.{needs}
 use Rattle.table.specs.Sizes.{perFact}
-use Rattle.search.specs.Choices.{inChoice}
+use Rattle.choices.specs.Choices.{inChoice}
 use Rattle.search.specs.Rows.{rowWith}
 use Rattle.search.proofs.RowLaws.{rowBelow, below-first, below-fits, below-more, below-end}
 use Rattle.search.proofs.row.row_of_choice.Statement.{statement}
@@ -25,7 +25,7 @@ bare-row-requires : tie.Need-bare-row-requires Inv-loop μ-loop
 bare-row-requires c κs = search needs
 
 next-in-requires : tie.Need-next-in-requires Inv-loop μ-loop
-next-in-requires c κs = omega arith
+next-in-requires c κs = search needs
 
 loop-holds : tie.Need-loop-holds Inv-loop μ-loop
 loop-holds c =
@@ -52,7 +52,7 @@ add-next-in : tie.Need-add-next-in Inv-loop μ-loop
 add-next-in c = omega arith
 
 next-in-requires-2 : tie.Need-next-in-requires-2 Inv-loop μ-loop
-next-in-requires-2 c κs = omega arith
+next-in-requires-2 c κs = search needs
 
 loop-less : tie.Need-loop-less Inv-loop μ-loop
 loop-less c = omega (arith, c .next-in2 .ensures .after)
@@ -68,7 +68,7 @@ loop-again c =
       c .next-in2 .ensures .within,
       c .next-in2 .ensures .present,
       below-more (at .args .f) (at .args .s) (here .code) (c .next-in2 .result) (here .row .places) (c .before .row-with .result .places)
-          (here .inv .2) (here .inv .1 below) fits (c .before .row-with .ensures ∙ ap (rowWith (here .row .places)) (numbered .number-of .ensures))
+          below (here .inv .2) (here .inv .1 below) fits (c .before .row-with .ensures ∙ ap (rowWith (here .row .places)) (numbered .number-of .ensures))
           (c .next-in2 .ensures),
     )
 

@@ -12,7 +12,7 @@ use borrow.Author.Tests.{not-true, not-false}
 use borrow.Fn.Kinds.{In}
 use borrow.Fn.PlainCycle.{Measures, is, falls, and}
 use Rattle.table.specs.Sizes.{perFact}
-use Rattle.search.specs.Choices.{inChoice, listOf, Apart}
+use Rattle.choices.specs.Choices.{inChoice, listOf, Apart}
 use Rattle.search.specs.Columns.{coursesIn}
 use Rattle.search.specs.Searching.{Allowed, Complete, Lacks, OutFor, Reached}
 use Rattle.search.proofs.BoundLaws.{shared-none, shared-short}
@@ -24,8 +24,8 @@ use Rattle.search.proofs.search.test.Reads as test
 use Rattle.search.proofs.search.test.Kinds as test-kinds
 use Rattle.search.proofs.search.+branch+test.Lts-test as test-lts
 use Rattle.search.proofs.bound.reach.Reads as reach-reads
-use Rattle.search.proofs.choices.next_in.Reads as next-in-reads
-use Rattle.search.proofs.choices.with_repair.Reads as with-repair-reads
+use Rattle.choices.proofs.next_in.Reads as next-in-reads
+use Rattle.choices.proofs.with_repair.Reads as with-repair-reads
 use Rattle.search.proofs.lack.is_complete.Reads as is-complete-reads
 use Rattle.search.proofs.lack.lacking.Reads as lacking-reads
 use Rattle.search.proofs.search.+branch+test.{statement}
@@ -101,7 +101,7 @@ branch-lacking-requires : (t : ℕ) → branch-lts.Need-lacking-requires (B t) (
 branch-lacking-requires t c κs = (c .before .pre .1 .0, c .before .pre .1 .1 .1 .0)
 
 branch-next-in-requires : (t : ℕ) → branch-lts.Need-next-in-requires (B t) (branch-at t) branch.Post branch-Inv-loop branch-μ-loop
-branch-next-in-requires t c κs = omega arith
+branch-next-in-requires t c κs = search needs
 
 branch-loop-holds : (t : ℕ) → branch-lts.Need-loop-holds (B t) (branch-at t) branch.Post branch-Inv-loop branch-μ-loop
 branch-loop-holds t c =
@@ -171,7 +171,7 @@ branch-add-next-in : (t : ℕ) → branch-lts.Need-add-next-in (B t) (branch-at 
 branch-add-next-in t c = omega arith
 
 branch-next-in-requires-2 : (t : ℕ) → branch-lts.Need-next-in-requires-2 (B t) (branch-at t) branch.Post branch-Inv-loop branch-μ-loop
-branch-next-in-requires-2 t c κs = omega arith
+branch-next-in-requires-2 t c κs = search needs
 
 branch-loop-less : (t : ℕ) → branch-lts.Need-loop-less (B t) (branch-at t) branch.Post branch-Inv-loop branch-μ-loop
 branch-loop-less t c = omega (arith, c .next-in2 .ensures .after)

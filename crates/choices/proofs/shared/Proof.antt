@@ -1,9 +1,9 @@
--- `search::choices::shared` takes what the sets of each kind share.
+-- `choices::shared` takes what the sets of each kind share.
 use mathlib.Core.Path.{refl}
-use Rattle.search.specs.Trying.{sharedBy}
+use Rattle.choices.specs.Trying.{sharedBy}
 use borrow.Author.Needs.{needs}
-use Rattle.search.proofs.choices.shared.Statement.{statement}
-use Rattle.search.proofs.choices.shared.Tie as tie
+use Rattle.choices.proofs.shared.Statement.{statement}
+use Rattle.choices.proofs.shared.Tie as tie
 
 overlap-requires : tie.Need-overlap-requires
 overlap-requires c κs = search needs

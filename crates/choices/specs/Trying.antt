@@ -1,13 +1,13 @@
--- What the search does with sets of repairs: one repair more, two sets as one, what two share, a set's codes in turn.
+-- What is done with sets of repairs: one repair more, two sets as one, what two share, a set's codes in turn.
 use mathlib.Core.Bool.{Bool, true, false}
 use mathlib.Core.Path.{_≡_}
-use Prim.Native.Nat.{ℕ, _<_, _≤_}
+use Prim.Native.Nat.{ℕ, _<_, _≤_, min}
 use lib.Dec.{ltb}
 use Rattle.facts.specs.Sets.{width, has, joined, shared, removed, only}
 use Rattle.table.specs.Repairs.{byKind}
 use Rattle.table.specs.Sizes.{perFact}
-use Rattle.search.specs.declared.Choice.{Choice}
-use Rattle.search.specs.Choices.{codeKind, codeAction, inChoice, Shares}
+use Rattle.choices.specs.declared.Choice.{Choice}
+use Rattle.choices.specs.Choices.{codeKind, codeAction, inChoice, Shares}
 
 -- A set with another set of actions for one kind.
 abbrev pub withMask : ℕ → ℕ → Choice → Choice
@@ -59,7 +59,7 @@ pub record NextAction (m skip next : ℕ) : Type 0 where
 
 -- The first code from `from` on that is in the set, or `perFact` where none is.
 pub record NextIn (s : Choice) (from next : ℕ) : Type 0 where
-  pub after : from ≤ next
+  pub after : min from perFact ≤ next
   pub within : next ≤ perFact
   pub absent : (code : ℕ) → code < next → from ≤ code → inChoice s code ≡ false
   pub present : next < perFact → inChoice s next ≡ true

@@ -1,12 +1,12 @@
--- `search::choices::next_in` looks at the kinds in turn: each that is passed has no code from there on.
+-- `choices::next_in` looks at the kinds in turn: each that is passed has no code from there on.
 use Prim.Native.Nat.{_*_}
 use native.Mathlib.Omega.{arith}
 use borrow.Author.Needs.{needs}
 use Rattle.table.specs.Repairs.{dropDelete, addEffect, dropNeed}
 use Rattle.table.specs.Sizes.{perKind}
-use Rattle.search.proofs.MaskLaws.{NoneIn, next-none, next-here}
-use Rattle.search.proofs.choices.next_in.Statement.{statement}
-use Rattle.search.proofs.choices.next_in.Tie as tie
+use Rattle.choices.proofs.MaskLaws.{NoneIn, next-none, next-here}
+use Rattle.choices.proofs.next_in.Statement.{statement}
+use Rattle.choices.proofs.next_in.Tie as tie
 
 next-action-requires : tie.Need-next-action-requires
 next-action-requires c κs = search needs
@@ -88,7 +88,7 @@ returns-4 c =
     let needs = c .before .next-action3 in
     let skip = c .before .before .passed2 in
     record {
-      after = at .pre;
+      after = omega arith;
       within = omega arith;
       absent =
           next-none (at .args .s) dropNeed (at .args .from) (skip .result) (needs .result) (omega arith) (skip .ensures)

@@ -8,7 +8,7 @@ use Rattle.facts.specs.Sets.{has}
 use Rattle.table.specs.Lists.{gather, piece}
 use Rattle.table.specs.Repairs.{byKind, factOf}
 use Rattle.table.specs.Sizes.{perFact, perKind}
-use Rattle.search.specs.declared.Choice.{Choice}
+use Rattle.choices.specs.declared.Choice.{Choice}
 
 abbrev pub codeOf : ℕ → ℕ → ℕ
 codeOf k a = perKind * k + a

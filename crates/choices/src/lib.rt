@@ -1,5 +1,4 @@
 // Sets of repairs of one fact: one repair more, two as one, what two share, one without another, and a set's codes in turn.
-use crate::Choice;
 use facts::below_mask;
 use facts::count;
 use facts::join;
@@ -9,15 +8,22 @@ use facts::remove;
 use facts::with_fact;
 use table::repair::Repair;
 ghost use mathlib.Core.Path.{_≡_};
-ghost use Prim.Native.Nat.{ℕ, _-_, _*_, _<_, _≤_};
-ghost use Rattle.table.specs.Sizes.{kinds, perFact, perKind};
+ghost use Prim.Native.Nat.{ℕ, _-_, _*_, _<_};
+ghost use Rattle.table.specs.Sizes.{kinds, perKind};
 ghost use lib.ListN.{length};
-ghost use Rattle.search.specs.Choices.{codeOf, listOf};
-ghost use Rattle.search.specs.Choices as choices;
+ghost use Rattle.choices.specs.Choices.{codeOf, listOf};
+ghost use Rattle.choices.specs.Choices as choices;
 ghost use Rattle.facts.specs.Sets.{sumBits};
-ghost use Rattle.search.specs.Trying.{withRepair, bothOf, sharedBy, withoutThose, CodesBelow, NextAction, NextIn, Sharing};
+ghost use Rattle.choices.specs.Trying.{withRepair, bothOf, sharedBy, withoutThose, CodesBelow, NextAction, NextIn, Sharing};
 
-pub(crate) fn nothing() -> Choice
+// A set of repairs of one fact: the actions whose delete is dropped, that get the effect, whose need is dropped.
+pub struct Choice {
+    pub deletes: u64,
+    pub adds: u64,
+    pub needs: u64,
+}
+
+pub fn nothing() -> Choice
     ensures { λ r. ⌜ r ≡ choices.nothing ⌝ }
 {
     Choice {
@@ -36,7 +42,7 @@ fn code_of(kind: usize, action: usize) -> usize
     Repair::PER_KIND * kind + action
 }
 
-pub(crate) fn with_repair(s: Choice, code: usize) -> Choice
+pub fn with_repair(s: Choice, code: usize) -> Choice
     ensures { λ r. ⌜ r ≡ withRepair s code ⌝ }
 {
     let kind = code / Repair::PER_KIND;
@@ -66,7 +72,7 @@ pub(crate) fn with_repair(s: Choice, code: usize) -> Choice
 }
 
 // The repairs that are in one of the sets or in both.
-pub(crate) fn joined(a: Choice, b: Choice) -> Choice
+pub fn joined(a: Choice, b: Choice) -> Choice
     ensures { λ r. ⌜ r ≡ bothOf a b ⌝ }
 {
     Choice {
@@ -77,7 +83,7 @@ pub(crate) fn joined(a: Choice, b: Choice) -> Choice
 }
 
 // The repairs of the first set that are not in the second.
-pub(crate) fn without(a: Choice, b: Choice) -> Choice
+pub fn without(a: Choice, b: Choice) -> Choice
     ensures { λ r. ⌜ r ≡ withoutThose a b ⌝ }
 {
     Choice {
@@ -88,7 +94,7 @@ pub(crate) fn without(a: Choice, b: Choice) -> Choice
 }
 
 // The repairs that are in both sets.
-pub(crate) fn shared(a: Choice, b: Choice) -> Choice
+pub fn shared(a: Choice, b: Choice) -> Choice
     ensures { λ r. ⌜ r ≡ sharedBy a b ⌝ }
 {
     Choice {
@@ -106,7 +112,7 @@ fn count_actions(m: u64) -> usize
 }
 
 // How many repairs the set has: the length of its list, whichever fact it is of.
-pub(crate) fn size(s: Choice) -> usize
+pub fn size(s: Choice) -> usize
     ensures { λ r. ⌜ ((f : ℕ) → r ≡ length (listOf f s)) ⌝ }
 {
     count_actions(s.deletes) + count_actions(s.adds) + count_actions(s.needs)
@@ -122,7 +128,7 @@ fn passed(kind: usize, from: usize) -> usize
 }
 
 // The repairs whose codes are below one.
-pub(crate) fn below(code: usize) -> Choice
+pub fn below(code: usize) -> Choice
     ensures { λ r. ⌜ CodesBelow code r ⌝ }
 {
     let deletes = passed(Repair::DROP_DELETE, code);
@@ -143,8 +149,7 @@ fn next_action(m: u64, skip: usize) -> usize
 }
 
 // The first code of the set at or after one, or PER_FACT.
-pub(crate) fn next_in(s: Choice, from: usize) -> usize
-    requires { ⌜ from ≤ perFact ⌝ }
+pub fn next_in(s: Choice, from: usize) -> usize
     ensures { λ r. ⌜ NextIn s from r ⌝ }
 {
     let deletes = next_action(s.deletes, from);
@@ -163,7 +168,7 @@ pub(crate) fn next_in(s: Choice, from: usize) -> usize
 }
 
 // Have the sets a repair in common?
-pub(crate) fn share(a: Choice, b: Choice) -> bool
+pub fn share(a: Choice, b: Choice) -> bool
     ensures { λ r. ⌜ Sharing a b r ⌝ }
 {
     next_in(shared(a, b), 0) < Repair::PER_FACT

@@ -1,9 +1,9 @@
--- `search::choices::without` takes the sets of each kind apart.
+-- `choices::without` takes the sets of each kind apart.
 use borrow.Author.Needs.{needs}
 use mathlib.Core.Path.{refl}
-use Rattle.search.specs.Trying.{withoutThose}
-use Rattle.search.proofs.choices.without.Statement.{statement}
-use Rattle.search.proofs.choices.without.Tie as tie
+use Rattle.choices.specs.Trying.{withoutThose}
+use Rattle.choices.proofs.without.Statement.{statement}
+use Rattle.choices.proofs.without.Tie as tie
 
 remove-requires : tie.Need-remove-requires
 remove-requires c κs = search needs

@@ -1,9 +1,9 @@
--- `search::choices::joined` joins the sets of each kind.
+-- `choices::joined` joins the sets of each kind.
 use borrow.Author.Needs.{needs}
 use mathlib.Core.Path.{refl}
-use Rattle.search.specs.Trying.{bothOf}
-use Rattle.search.proofs.choices.joined.Statement.{statement}
-use Rattle.search.proofs.choices.joined.Tie as tie
+use Rattle.choices.specs.Trying.{bothOf}
+use Rattle.choices.proofs.joined.Statement.{statement}
+use Rattle.choices.proofs.joined.Tie as tie
 
 join-requires : tie.Need-join-requires
 join-requires c κs = search needs

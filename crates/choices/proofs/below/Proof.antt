@@ -1,14 +1,14 @@
--- `search::choices::below` has, of each kind, the actions whose codes are below.
+-- `choices::below` has, of each kind, the actions whose codes are below.
 use mathlib.Core.Path.{_≡_, ap, _∙_}
 use Prim.Native.Nat.{_*_, _-_}
 use Rattle.facts.specs.Sets.{below}
 use Rattle.table.specs.Sizes.{perKind}
 use Rattle.table.proofs.RepairNumbers.{kind-cases}
-use Rattle.search.specs.Trying.{maskIn}
-use Rattle.search.proofs.MaskLaws.{masks-below}
+use Rattle.choices.specs.Trying.{maskIn}
+use Rattle.choices.proofs.MaskLaws.{masks-below}
 use borrow.Author.Needs.{needs}
-use Rattle.search.proofs.choices.below.Statement.{statement}
-use Rattle.search.proofs.choices.below.Tie as tie
+use Rattle.choices.proofs.below.Statement.{statement}
+use Rattle.choices.proofs.below.Tie as tie
 
 passed-requires : tie.Need-passed-requires
 passed-requires c κs = search needs

@@ -1,8 +1,8 @@
--- `search::choices::count_actions` counts the ones below the edge of a kind.
+-- `choices::count_actions` counts the ones below the edge of a kind.
 use borrow.Author.Needs.{needs}
-use Rattle.search.proofs.MaskLaws.{count-actions}
-use Rattle.search.proofs.choices.count_actions.Statement.{statement}
-use Rattle.search.proofs.choices.count_actions.Tie as tie
+use Rattle.choices.proofs.MaskLaws.{count-actions}
+use Rattle.choices.proofs.count_actions.Statement.{statement}
+use Rattle.choices.proofs.count_actions.Tie as tie
 
 below-mask-requires : tie.Need-below-mask-requires
 below-mask-requires c κs = search needs

@@ -1,8 +1,8 @@
--- `search::choices::next_action` takes the lowest place of the set without those passed.
+-- `choices::next_action` takes the lowest place of the set without those passed.
 use borrow.Author.Needs.{needs}
-use Rattle.search.proofs.MaskLaws.{next-lowest}
-use Rattle.search.proofs.choices.next_action.Statement.{statement}
-use Rattle.search.proofs.choices.next_action.Tie as tie
+use Rattle.choices.proofs.MaskLaws.{next-lowest}
+use Rattle.choices.proofs.next_action.Statement.{statement}
+use Rattle.choices.proofs.next_action.Tie as tie
 
 below-mask-requires : tie.Need-below-mask-requires
 below-mask-requires c κs = search needs

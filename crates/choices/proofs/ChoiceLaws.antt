@@ -20,9 +20,9 @@ use Rattle.table.proofs.FlagLaws.{or-cases, or-left, or-right, and-left, and-ri
 use Rattle.table.proofs.GatherLaws.{passing, Passed, passing-from, passing-has, passing-ascending}
 use Rattle.table.proofs.OrderLaws
 use Rattle.table.proofs.RepairNumbers.{kind-cases}
-use Rattle.search.specs.declared.Choice.{Choice}
-use Rattle.search.specs.Choices.{codeKind, codeAction, codeNumber, nothing, inChoice, numbersIn, listOf, Contains, Misses, Meets, Apart}
-use Rattle.search.specs.Trying.{withMask, maskIn, withRepair, bothOf, sharedBy, withoutThose, NextIn, Sharing}
+use Rattle.choices.specs.declared.Choice.{Choice}
+use Rattle.choices.specs.Choices.{codeKind, codeAction, codeNumber, nothing, inChoice, numbersIn, listOf, Contains, Misses, Meets, Apart}
+use Rattle.choices.specs.Trying.{withMask, maskIn, withRepair, bothOf, sharedBy, withoutThose, NextIn, Sharing}
 
 -- ---- the list of a set of codes
 

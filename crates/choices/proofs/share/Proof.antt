@@ -1,8 +1,8 @@
--- `search::choices::share` looks for the first repair that both have.
-use Rattle.search.proofs.ChoiceLaws.{sharing-next}
+-- `choices::share` looks for the first repair that both have.
+use Rattle.choices.proofs.ChoiceLaws.{sharing-next}
 use borrow.Author.Needs.{needs}
-use Rattle.search.proofs.choices.share.Statement.{statement}
-use Rattle.search.proofs.choices.share.Tie as tie
+use Rattle.choices.proofs.share.Statement.{statement}
+use Rattle.choices.proofs.share.Tie as tie
 
 shared-requires : tie.Need-shared-requires
 shared-requires c κs = search needs

@@ -1,10 +1,10 @@
--- `search::choices::size` adds the counts of the three kinds.
+-- `choices::size` adds the counts of the three kinds.
 use native.Mathlib.Omega.{arith}
 use borrow.Author.Needs.{needs}
 use Rattle.table.specs.Sizes.{perKind}
-use Rattle.search.proofs.MaskLaws.{sumBits-le, choice-length}
-use Rattle.search.proofs.choices.size.Statement.{statement}
-use Rattle.search.proofs.choices.size.Tie as tie
+use Rattle.choices.proofs.MaskLaws.{sumBits-le, choice-length}
+use Rattle.choices.proofs.size.Statement.{statement}
+use Rattle.choices.proofs.size.Tie as tie
 
 count-actions-requires : tie.Need-count-actions-requires
 count-actions-requires c κs = search needs

@@ -1,10 +1,10 @@
--- `search::choices::with_repair` joins the action to the kind's set.
+-- `choices::with_repair` joins the action to the kind's set.
 use borrow.Author.Needs.{needs}
 use borrow.Author.Tests.{eq-eqb, ne-eqb}
 use mathlib.Core.Path.{refl}
-use Rattle.search.specs.Trying.{withRepair}
-use Rattle.search.proofs.choices.with_repair.Statement.{statement}
-use Rattle.search.proofs.choices.with_repair.Tie as tie
+use Rattle.choices.specs.Trying.{withRepair}
+use Rattle.choices.proofs.with_repair.Statement.{statement}
+use Rattle.choices.proofs.with_repair.Tie as tie
 
 with-fact-requires : tie.Need-with-fact-requires
 with-fact-requires c κs = search needs

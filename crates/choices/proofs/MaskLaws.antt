@@ -1,11 +1,11 @@
--- Laws of a choice as three masks of actions: its size as counts, its next code as a lowest
--- place, the codes below one.
+-- Laws of a choice as three masks of actions: what is in it, its size as counts, its next code as a lowest place, the codes below
+-- one.
 use mathlib.Core.Bool.{true, false, not, _&&_, and-true, and-false}
-use mathlib.Core.Path.{_≡_, sym, ap, _∙_}
+use mathlib.Core.Path.{_≡_, refl, sym, ap, _∙_}
 use Prim.Native.Nat.{ℕ, zero, suc, _+_, _*_, _-_, _^_, _<_, _≤_, min}
 use native.Mathlib.Decide.{decLt}
 use native.Mathlib.Omega.{arith}
-use borrow.Author.Tests.{lt-ltb, le-ltb, ltb-true, ltb-false, not-true}
+use borrow.Author.Tests.{eq-eqb, lt-ltb, le-ltb, ltb-true, ltb-false, not-true}
 use lib.Dec.{ltb}
 use lib.ListN.{length}
 use Rattle.facts.specs.Sets.{width, bit, has, shared, removed, below, count, lowest, sumBits}
@@ -13,14 +13,15 @@ use Rattle.facts.proofs.Counting.{bit-has, count-sum, lowest-has, lowest-first,
 use Rattle.facts.proofs.Digits.{bit-lt}
 use Rattle.facts.proofs.Laws.{has-shared, has-removed, has-below, shared-lt, removed-lt}
 use Rattle.table.specs.Lists.{gather}
-use Rattle.table.specs.Repairs.{dropDelete, addEffect, dropNeed}
+use Rattle.table.specs.Repairs.{dropDelete, addEffect, dropNeed, chosen}
 use Rattle.table.proofs.FlagLaws.{and-left, and-right, same-flag}
-use Rattle.table.specs.Sizes.{perKind, kinds}
-use Rattle.search.specs.declared.Choice.{Choice}
-use Rattle.search.specs.Choices.{codeKind, codeAction, inChoice, listOf}
-use Rattle.search.specs.Trying.{maskIn, CodesBelow, NextAction, NextIn}
+use Rattle.table.proofs.RepairNumbers.{fact-back, kind-back, action-back}
+use Rattle.table.specs.Sizes.{maxActions, perKind, kinds}
+use Rattle.choices.specs.declared.Choice.{Choice}
+use Rattle.choices.specs.Choices.{codeOf, codeKind, codeAction, inChoice, numbersIn, listOf}
+use Rattle.choices.specs.Trying.{maskIn, CodesBelow, NextAction, NextIn}
 use Rattle.table.proofs.GatherLaws.{passing}
-use Rattle.search.proofs.ChoiceLaws.{weight, codes, codes-length}
+use Rattle.choices.proofs.ChoiceLaws.{weight, codes, codes-length}
 
 -- The repair of a code, in its kind's mask.
 in-kind : (s : Choice) (k c : ℕ) → perKind * k ≤ c → c < perKind * k + perKind → inChoice s c ≡ has (maskIn k s) (c - perKind * k)
@@ -29,6 +30,18 @@ in-kind s k c low high =
     let kind : codeKind c ≡ k = omega arith in
     let action : codeAction c ≡ c - perKind * k = omega arith in
     ap (λ j. has (maskIn j s) (codeAction c)) kind ∙ ap (λ a. has (maskIn k s) a) action
+
+pub chosen-has : (f : ℕ) (s : Choice) (k a : ℕ) → k < kinds → a < maxActions → chosen (numbersIn f s) f k a ≡ has (maskIn k s) a
+unfolding chosen numbersIn inChoice
+chosen-has f s k a hk ha =
+    rw (lt-ltb a maxActions ha, fact-back f k a hk ha, kind-back f k a hk ha, action-back f k a hk ha, eq-eqb f f refl)
+
+pub inChoice-has : (s : Choice) (k a : ℕ) → a < maxActions → inChoice s (codeOf k a) ≡ has (maskIn k s) a
+unfolding inChoice
+inChoice-has s k a ha =
+    let kind : codeKind (codeOf k a) ≡ k = omega arith in
+    let action : codeAction (codeOf k a) ≡ a = omega arith in
+    rw (kind, action)
 
 -- ---- the size
 

@@ -1,0 +1,3 @@
+-- What other crates cite of `choices`.
+pub mod ChoiceLaws
+pub mod MaskLaws
