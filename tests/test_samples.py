@@ -34,7 +34,7 @@ NUMBERS = {"sweep": "action 3", "known": "fact 4", "turn": "action 2"}
 WORDS = {
     "first": ["3 needs are missing; the first of them:", "To change (2 repairs):", "  sweep should not end laser-ready"],
     "pairs": [f"  move-{number} should not end shutter-open" for number in range(1, 7)],
-    "wordiest": ["1030 needs are missing in run panel-8; the first of them:", "  tilt should not end row-63"],
+    "wordiest": ["1006 needs are missing in run panel-8; the first of them:", "  tilt should not end row-19"],
     "fullest": [f"Nothing is missing in run panel-{number}: the run is valid as the table stands." for number in range(1, 9)],
     "hopeless": ["  at the end: the goal map-complete is absent", "No list of repairs, of any length, makes the run valid."],
     "runs": ["5 needs are missing in run short; the first of them:", "  turn should make direction-known true"],

@@ -102,7 +102,7 @@ class Table(Case):
 
     def test_ranges_are_cut(self):
         before = (SAMPLES / "wordiest.txt").read_text()
-        self.assertEqual(self.table(SAMPLES / "wordiest.txt"), before.replace("  deletes row-{58..63}\n", ""))
+        self.assertEqual(self.table(SAMPLES / "wordiest.txt"), before.replace("  deletes row-{14..19}\n", ""))
 
     def test_a_valid_table_stays_as_it_is(self):
         text = GOOD.replace("steps press\n", "").replace("goal ", "#goal") + "\n# the end, without a line feed"
