@@ -274,9 +274,6 @@ module _ (R : ℕ → Bool) (f : ℕ) (s : Choice) (code : ℕ) (h : code < perF
   pub contains-without : Contains R f (withRepair s code) → Contains R f s
   contains-without part c hc t = part c hc (with-keeps s code c h hc t)
 
-  pub contains-repair : Contains R f (withRepair s code) → R (codeNumber f code) ≡ true
-  contains-repair part = part code h (with-has s code h)
-
 -- ---- the empty choice
 
 pub nothing-list : (f : ℕ) → listOf f nothing ≡ []
