@@ -9,6 +9,7 @@
 enum { IN = 0, OUT = 1, CHUNK = 1 << 16 };
 
 enum { RECORD = 1, READ, WRITE, CHECK, APPLY, SOLVE, OPEN, EDIT, LIST, LISTING };
+enum { WRITE_DOMAIN = LISTING + 1, WRITE_PROBLEM, READ_DOMAIN, READ_PROBLEM, ADD_RUN };
 
 /* Grown memory: how many bytes are in it and how many it can hold. */
 struct bytes {
@@ -124,12 +125,45 @@ static void answer_changed(const uint64_t *words, const struct request *q, size_
 
 static uint64_t word_at(const struct request *q, size_t i) { return i < q->words ? q->word[i] : 0; }
 
+/* How many words of the request are the task's, and not what stands behind them. */
+static size_t task_words(const struct request *q) {
+    int one = q->op == CHECK || q->op == LIST || q->op == WRITE_PROBLEM;
+    size_t more = q->op == EDIT ? 4 : q->op == ADD_RUN ? 2 : one ? 1 : 0;
+    return q->words < more ? 0 : q->words - more;
+}
+
+/* The calls of 02, request 4. */
+static void make_texts(struct request *q, uint64_t *a, size_t task) {
+    switch (q->op) {
+    case WRITE_DOMAIN:
+        zp_write_domain(q->word, task, q->byte, q->bytes, a, ZP_REPLY_WORDS);
+        answer(a, ZP_REPLY_WORDS, q->byte, q->bytes);
+        break;
+    case WRITE_PROBLEM:
+        zp_write_problem(q->word, task, word_at(q, task), q->byte, q->bytes, a, ZP_REPLY_WORDS);
+        answer(a, ZP_REPLY_WORDS, q->byte, q->bytes);
+        break;
+    case READ_DOMAIN:
+        zp_read_domain(q->byte, q->bytes, word_at(q, 0), a, ZP_TASK_ANSWER_WORDS);
+        answer(a, ZP_TASK_ANSWER_WORDS, NULL, 0);
+        break;
+    case READ_PROBLEM:
+        zp_read_problem(q->byte, q->bytes, word_at(q, 0), a, ZP_PROBLEM_WORDS);
+        answer(a, ZP_PROBLEM_WORDS, NULL, 0);
+        break;
+    case ADD_RUN:
+        zp_add_run(q->word, task, word_at(q, task), word_at(q, task + 1), q->byte, q->bytes, a, ZP_CHANGED_WORDS);
+        answer_changed(a, q, task, 0);
+        break;
+    default:
+        exit(3);
+    }
+}
+
 static void make(struct request *q) {
     uint64_t a[ZP_TASK_ANSWER_WORDS];
     static uint8_t text[ZP_LISTING_BYTES];
-    /* the task's words, and what stands behind them */
-    size_t more = q->op == EDIT ? 4 : q->op == CHECK || q->op == LIST ? 1 : 0;
-    size_t task = q->words < more ? 0 : q->words - more;
+    size_t task = task_words(q);
     memset(a, 0, sizeof a);
     switch (q->op) {
     case RECORD:
@@ -178,7 +212,7 @@ static void make(struct request *q) {
         answer(NULL, 0, text, a[2]);
         break;
     default:
-        exit(3);
+        make_texts(q, a, task);
     }
 }
 

@@ -1,6 +1,6 @@
 /* A small test of each function of the header: 01's 36-byte file through every call, which byte is wrong, the order of the
- * parameters, several runs, steps that can't run, short rooms and short answers, empty slices and wrong lengths. It prints
- * what fails and ends with status 1 if anything did. */
+ * parameters, several runs, steps that can't run, the PDDL texts there and back, short rooms and short answers, empty slices
+ * and wrong lengths. It prints what fails and ends with status 1 if anything did. */
 #include <stdio.h>
 #include <string.h>
 
@@ -196,6 +196,11 @@ static void short_answers(size_t missing) {
     expect(too_short(zp_edit(lent, 636, ZP_NEED, 2, 3, 1, table, 448, answer, changed)), "short answer: edit");
     expect(too_short(zp_list(lent, 636, table, 448, room, 8, answer, reply)), "short answer: list");
     expect(too_short(zp_listing(file, 36, bytes, 40, answer, reply)), "short answer: listing");
+    expect(too_short(zp_write_domain(lent, 636, bytes, 40, answer, reply)), "short answer: write_domain");
+    expect(too_short(zp_write_problem(lent, 636, 0, bytes, 40, answer, reply)), "short answer: write_problem");
+    expect(too_short(zp_read_domain(file, 36, 3, answer, less(ZP_TASK_ANSWER_WORDS, missing))), "short answer: read_domain");
+    expect(too_short(zp_read_problem(file, 36, 4, answer, less(ZP_PROBLEM_WORDS, missing))), "short answer: read_problem");
+    expect(too_short(zp_add_run(lent, 636, 1, 8, file + 30, 1, answer, changed)), "short answer: add_run");
     expect(too_short(zp_solve(lent, 635, room, 0, answer, reply)), "short answer: before 12");
     expect(too_short(zp_edit(lent, 635, 9, 9, 9, 9, table, 3, answer, changed)), "short answer: before 12, 13 and 14");
     expect(bytes_kept(bytes, 40) && halves_kept(room, 8) && halves_kept(table, 448) && as_lent() && kept(0),
@@ -395,6 +400,237 @@ static void listing(void) {
     expect(bytes_kept(room + ZP_LISTING_BYTES, sizeof room - ZP_LISTING_BYTES), "listing: nothing after the room");
 }
 
+/* ---- the table as PDDL (02, request 4; docs/PDDL.md) */
+
+#define OPENING "(define (problem run)\n  (:domain stage)\n  (:init\n"
+
+/* What the texts of the story have, once its table is mended. */
+static const char domain[] =
+    "(define (domain stage)\n  (:requirements :strips)\n  (:predicates\n    (f0)\n    (f1)\n    (f2)\n    (f3)\n  )\n"
+    "  (:action a0\n   :parameters ()\n   :precondition (and\n    (f0)\n   )\n   :effect (and\n    (f1)\n    (f2)\n   )\n  )\n"
+    "  (:action a1\n   :parameters ()\n   :precondition (and\n    (f1)\n   )\n   :effect (and\n   )\n  )\n"
+    "  (:action a2\n   :parameters ()\n   :precondition (and\n    (f1)\n    (f2)\n   )\n   :effect (and\n    (f3)\n   )\n  )\n"
+    ")\n";
+static const char problem[] = OPENING "    (f0)\n  )\n  (:goal (and\n    (f3)\n  ))\n)\n";
+static const char second_problem[] = OPENING "    (f1)\n    (f2)\n  )\n  (:goal (and\n    (f3)\n  ))\n)\n";
+
+enum { DOMAIN = sizeof domain - 1, PROBLEM = sizeof problem - 1, SECOND_PROBLEM = sizeof second_problem - 1 };
+
+static uint8_t text[ZP_DOMAIN_BYTES + 1];
+
+static int is_problem(size_t number, size_t place, uint64_t start, uint64_t goal) {
+    return answer[0] == number && answer[1] == place && answer[2] == start && answer[3] == goal && kept(ZP_PROBLEM_WORDS);
+}
+
+/* Room that nothing was written in yet. */
+static uint8_t *blank(void) {
+    memset(text, UNTOUCHED, sizeof text);
+    return text;
+}
+
+/* The room holds this text from its first place on, and nothing beside. */
+static int holds(const char *bytes, size_t length) {
+    return is_reply(0, 0, length) && memcmp(text, bytes, length) == 0 && bytes_kept(text + length, sizeof text - length);
+}
+
+/* The run's problem text is read back, and the run put to the task `built` with the steps that it has in `task`. */
+static void put_together(uint64_t *built, size_t run) {
+    size_t count = task[ZP_AT_COUNTS + run];
+    uint8_t steps[ZP_STEPS];
+    for (size_t i = 0; i < count; i++)
+        steps[i] = (uint8_t)task[ZP_AT_STEPS + ZP_STEPS * run + i];
+    expect(zp_write_problem(task, ZP_TASK_WORDS, run, blank(), sizeof text, fresh(), ZP_REPLY_WORDS) == 0 &&
+               (run == 0 ? holds(problem, PROBLEM) : holds(second_problem, SECOND_PROBLEM)),
+           "pddl: the problem text, task before run before room before answer");
+    size_t length = answer[2];
+    expect(zp_read_problem(text, length, built[ZP_AT_FACTS], fresh(), ZP_PROBLEM_WORDS) == 0 &&
+               is_problem(0, 0, run == 0 ? 1 : 6, 8),
+           "pddl: a problem read, text before facts before answer, start before goal");
+    uint64_t start = answer[2], goal = answer[3];
+    expect(zp_add_run(built, ZP_TASK_WORDS, start, goal, steps, count, fresh(), ZP_CHANGED_WORDS) == 0 && is_changed(0, 0),
+           "pddl: the run put to the task");
+}
+
+/* A task file through a whole morning: solved, mended, written as PDDL, read back and put together again. Every run is valid. */
+static void morning(const uint8_t *bytes, size_t length) {
+    static uint64_t built[ZP_TASK_WORDS];
+    uint16_t list[ZP_LIST_NUMBERS];
+    zp_read(bytes, length, fresh(), ZP_TASK_ANSWER_WORDS);
+    memcpy(task, answer + 2, sizeof task);
+    expect(zp_solve(task, ZP_TASK_WORDS, list, ZP_LIST_NUMBERS, fresh(), ZP_REPLY_WORDS) == 0, "pddl: solved");
+    size_t repairs = answer[2];
+    expect(zp_apply(task, ZP_TASK_WORDS, list, repairs, fresh(), ZP_CHANGED_WORDS) == 0, "pddl: mended");
+    expect(zp_write_domain(task, ZP_TASK_WORDS, blank(), sizeof text, fresh(), ZP_REPLY_WORDS) == 0 && holds(domain, DOMAIN),
+           "pddl: the domain text, task before room before answer");
+    expect(zp_read_domain(text, DOMAIN, task[ZP_AT_LIMIT], fresh(), ZP_TASK_ANSWER_WORDS) == 0 && answer[1] == 0 &&
+               kept(ZP_TASK_ANSWER_WORDS),
+           "pddl: a domain read, text before limit before answer");
+    memcpy(built, answer + 2, sizeof built);
+    expect(memcmp(built, task, ZP_AT_MANY * sizeof *task) == 0, "pddl: the table again");
+    for (size_t i = ZP_AT_MANY; i < ZP_TASK_WORDS; i++)
+        expect(built[i] == 0, "pddl: a domain has no runs");
+    expect(zp_check(built, ZP_TASK_WORDS, 0, fresh(), ZP_CHECKED_WORDS) == 12, "pddl: without a run it is no task");
+    for (size_t run = 0; run < task[ZP_AT_MANY]; run++)
+        put_together(built, run);
+    expect(memcmp(built, task, sizeof task) == 0, "pddl: the mended task again, to the word");
+    for (size_t run = 0; run < task[ZP_AT_MANY]; run++)
+        expect(zp_check(built, ZP_TASK_WORDS, run, fresh(), ZP_CHECKED_WORDS) == 0 && is_checked(0, 0, 0, 0),
+               "pddl: every run is valid");
+}
+
+/* Of the mended task with two runs: 12, then 14, then 11, and nothing written. */
+static void refused_writing(void) {
+    blank();
+    expect(zp_write_domain(task, 635, text, sizeof text, fresh(), ZP_REPLY_WORDS) == 12 && is_reply(12, 0, 0),
+           "write_domain: 635 words");
+    expect(zp_write_domain(task, 637, NULL, 0, fresh(), ZP_REPLY_WORDS) == 12, "write_domain: 12 before 11");
+    lend()[ZP_AT_MANY] = 0;
+    expect(zp_write_domain(lent, ZP_TASK_WORDS, text, sizeof text, fresh(), ZP_REPLY_WORDS) == 12, "write_domain: no run");
+    expect(zp_write_domain(task, ZP_TASK_WORDS, text, DOMAIN - 1, fresh(), ZP_REPLY_WORDS) == 11 && is_reply(11, 0, 0),
+           "write_domain: a byte too short");
+    expect(zp_write_domain(task, ZP_TASK_WORDS, NULL, 0, fresh(), ZP_REPLY_WORDS) == 11, "write_domain: no room");
+    expect(zp_write_problem(task, 635, 2, NULL, 0, fresh(), ZP_REPLY_WORDS) == 12 && is_reply(12, 0, 0),
+           "write_problem: 12 before 14 and 11");
+    expect(zp_write_problem(task, ZP_TASK_WORDS, 2, text, sizeof text, fresh(), ZP_REPLY_WORDS) == 14 && is_reply(14, 0, 0),
+           "write_problem: no such run");
+    expect(zp_write_problem(task, ZP_TASK_WORDS, (size_t)-1, NULL, 0, fresh(), ZP_REPLY_WORDS) == 14,
+           "write_problem: 14 before 11");
+    expect(zp_write_problem(task, ZP_TASK_WORDS, 0, text, PROBLEM - 1, fresh(), ZP_REPLY_WORDS) == 11 && is_reply(11, 0, 0),
+           "write_problem: a byte too short");
+    expect(bytes_kept(text, sizeof text), "write_domain, write_problem: a refusal writes nothing");
+    expect(zp_write_domain(task, ZP_TASK_WORDS, text, DOMAIN, fresh(), ZP_REPLY_WORDS) == 0 && holds(domain, DOMAIN),
+           "write_domain: just enough");
+    blank();
+    expect(zp_write_problem(task, ZP_TASK_WORDS, 0, text, PROBLEM, fresh(), ZP_REPLY_WORDS) == 0 && holds(problem, PROBLEM),
+           "write_problem: just enough");
+}
+
+/* The text is outside the layout from this place on: 17 there, and zeros. */
+static int no_domain(const uint8_t *bytes, size_t length, size_t place) {
+    int zeros = zp_read_domain(bytes, length, 3, fresh(), ZP_TASK_ANSWER_WORDS) == 17;
+    for (size_t i = 2; i < ZP_TASK_ANSWER_WORDS; i++)
+        zeros = zeros && answer[i] == 0;
+    return zeros && answer[0] == 17 && answer[1] == place && kept(ZP_TASK_ANSWER_WORDS);
+}
+
+static int no_problem(const void *bytes, size_t length, size_t facts, size_t place) {
+    return zp_read_problem(bytes, length, facts, fresh(), ZP_PROBLEM_WORDS) == 17 && is_problem(17, place, 0, 0);
+}
+
+/* Every text with one byte changed, every text that is cut, and one with a byte more. */
+static void wrong_domains(void) {
+    int changed = 1, cut = 1;
+    memcpy(text, domain, DOMAIN);
+    for (size_t i = 0; i < DOMAIN; i++) {
+        text[i] = '~';
+        changed = changed && no_domain(text, DOMAIN, i);
+        text[i] = (uint8_t)domain[i];
+        cut = cut && no_domain(text, i, i);
+    }
+    expect(changed, "read_domain: 17 at the byte that is changed");
+    expect(cut, "read_domain: 17 at the end of what is cut");
+    text[DOMAIN] = '\n';
+    expect(no_domain(text, DOMAIN + 1, DOMAIN), "read_domain: 17 at a byte more");
+    expect(no_domain(NULL, 0, 0), "read_domain: nothing is 17 at 0");
+}
+
+static void wrong_problems(void) {
+    int changed = 1, cut = 1;
+    memcpy(text, problem, PROBLEM);
+    for (size_t i = 0; i < PROBLEM; i++) {
+        text[i] = '~';
+        changed = changed && no_problem(text, PROBLEM, 4, i);
+        text[i] = (uint8_t)problem[i];
+        cut = cut && no_problem(text, i, 4, i);
+    }
+    expect(changed, "read_problem: 17 at the byte that is changed");
+    expect(cut, "read_problem: 17 at the end of what is cut");
+    text[PROBLEM] = '\n';
+    expect(no_problem(text, PROBLEM + 1, 4, PROBLEM), "read_problem: 17 at a byte more");
+    expect(no_problem(domain, DOMAIN, 4, 9), "read_problem: a domain is no problem");
+    expect(zp_read_problem(text, PROBLEM, 0, fresh(), ZP_PROBLEM_WORDS) == 4 && is_problem(4, 0, 0, 0), "read_problem: no facts");
+    expect(zp_read_problem(text, PROBLEM, 65, fresh(), ZP_PROBLEM_WORDS) == 4 && is_problem(4, 0, 0, 0), "read_problem: 65 facts");
+    expect(zp_read_problem(NULL, 0, (size_t)-1, fresh(), ZP_PROBLEM_WORDS) == 4, "read_problem: 4 before 17");
+}
+
+/* One name begins another: f1 and f10. The facts of the start stand from byte 49 on, those of the domain from 64. */
+static void names_that_begin_alike(void) {
+    static const char ten[] = OPENING "    (f10)\n  )\n  (:goal (and\n    (f1)\n  ))\n)\n";
+    static const char back[] = OPENING "    (f10)\n    (f1)\n  )\n  (:goal (and\n  ))\n)\n";
+    static const char both[] = OPENING "    (f1)\n    (f10)\n  )\n  (:goal (and\n  ))\n)\n";
+    static const char zero[] = OPENING "    (f01)\n  )\n  (:goal (and\n  ))\n)\n";
+    expect(zp_read_problem((const uint8_t *)ten, sizeof ten - 1, 11, fresh(), ZP_PROBLEM_WORDS) == 0 &&
+               is_problem(0, 0, 1 << 10, 1 << 1),
+           "names: f10 of 11 facts");
+    expect(zp_read_problem((const uint8_t *)both, sizeof both - 1, 64, fresh(), ZP_PROBLEM_WORDS) == 0 &&
+               is_problem(0, 0, (1 << 1) + (1 << 10), 0),
+           "names: f1 and f10");
+    expect(no_problem(ten, sizeof ten - 1, 10, 49 + 7), "names: f10 of 10 facts is 17 at its 0");
+    expect(no_problem(back, sizeof back - 1, 11, 49 + 10 + 2), "names: after f10 of 11 facts there is none");
+    expect(no_problem(back, sizeof back - 1, 12, 49 + 10 + 7), "names: f1 after f10 begins as f11 does");
+    expect(no_problem(zero, sizeof zero - 1, 64, 49 + 7), "names: no leading zero");
+    memcpy(text, domain, DOMAIN);
+    text[64 + 9 + 7] = '0';
+    expect(no_domain(text, DOMAIN, 64 + 9 + 7), "names: the second fact is not f10");
+}
+
+/* The greatest task: each text fills the room that has its name. An add that is deleted too is written in both places. */
+static void greatest_texts(void) {
+    static uint64_t greatest[ZP_TASK_WORDS];
+    uint64_t all = ~(uint64_t)0;
+    greatest[ZP_AT_FACTS] = 64;
+    greatest[ZP_AT_ACTIONS] = ZP_ACTIONS;
+    for (size_t i = 0; i < 3 * ZP_ACTIONS; i++)
+        greatest[ZP_AT_NEEDS + i] = all;
+    expect(zp_add_run(greatest, ZP_TASK_WORDS, all, all, NULL, 0, fresh(), ZP_CHANGED_WORDS) == 0, "greatest: a run without steps");
+    expect(zp_write_domain(greatest, ZP_TASK_WORDS, text, ZP_DOMAIN_BYTES - 1, fresh(), ZP_REPLY_WORDS) == 11, "greatest: 11");
+    expect(zp_write_domain(greatest, ZP_TASK_WORDS, blank(), ZP_DOMAIN_BYTES, fresh(), ZP_REPLY_WORDS) == 0 &&
+               is_reply(0, 0, ZP_DOMAIN_BYTES) && text[ZP_DOMAIN_BYTES] == UNTOUCHED,
+           "greatest: the domain text fills its room");
+    expect(zp_read_domain(text, ZP_DOMAIN_BYTES, 0, fresh(), ZP_TASK_ANSWER_WORDS) == 0 &&
+               memcmp(answer + 2, greatest, ZP_AT_MANY * sizeof *greatest) == 0,
+           "greatest: the table again");
+    expect(zp_write_problem(greatest, ZP_TASK_WORDS, 0, blank(), ZP_PROBLEM_BYTES, fresh(), ZP_REPLY_WORDS) == 0 &&
+               is_reply(0, 0, ZP_PROBLEM_BYTES) && bytes_kept(text + ZP_PROBLEM_BYTES, sizeof text - ZP_PROBLEM_BYTES),
+           "greatest: the problem text fills its room");
+    expect(zp_read_problem(text, ZP_PROBLEM_BYTES, 64, fresh(), ZP_PROBLEM_WORDS) == 0 && is_problem(0, 0, all, all),
+           "greatest: start and goal again");
+}
+
+/* A run is put to the task lent: 12 at 0, and every word as it was. */
+static int no_run(size_t words, uint64_t start, uint64_t goal, size_t count, uint8_t step) {
+    uint8_t steps[ZP_STEPS + 1];
+    memset(steps, step, sizeof steps);
+    return zp_add_run(lend(), words, start, goal, steps, count, fresh(), ZP_CHANGED_WORDS) == 12 && is_changed(12, 0) && as_lent();
+}
+
+static void adding_runs(void) {
+    static const uint8_t steps[2] = {2, 1};
+    expect(zp_add_run(lend(), ZP_TASK_WORDS, 6, 8, steps, 2, fresh(), ZP_CHANGED_WORDS) == 0 && is_changed(0, 0), "add_run: added");
+    expect(lent[ZP_AT_MANY] == 3 && lent[ZP_AT_STARTS + 2] == 6 && lent[ZP_AT_GOALS + 2] == 8 && lent[ZP_AT_COUNTS + 2] == 2,
+           "add_run: task before start before goal before steps before answer");
+    expect(lent[ZP_AT_STEPS + 2 * ZP_STEPS] == 2 && lent[ZP_AT_STEPS + 2 * ZP_STEPS + 1] == 1, "add_run: its steps");
+    expect(lent[ZP_TASK_WORDS] == UNTOUCHED, "add_run: nothing behind the task's words");
+    expect(no_run(635, 6, 8, 1, 2) && no_run(637, 6, 8, 1, 2), "add_run: 635 and 637 words");
+    expect(no_run(ZP_TASK_WORDS, 16, 8, 1, 2), "add_run: a start outside");
+    expect(no_run(ZP_TASK_WORDS, 6, 16, 1, 2), "add_run: a goal outside");
+    expect(no_run(ZP_TASK_WORDS, 6, 8, 1, 3), "add_run: a step that is no action");
+    expect(no_run(ZP_TASK_WORDS, 6, 8, ZP_STEPS + 1, 2), "add_run: 65 steps");
+    expect(!no_run(ZP_TASK_WORDS, 6, 8, ZP_STEPS, 2), "add_run: 64 steps are a run");
+    expect(zp_add_run(NULL, 0, 0, 0, NULL, 0, fresh(), ZP_CHANGED_WORDS) == 12, "add_run: no words");
+    lend()[ZP_AT_LIMIT] = 7;
+    expect(zp_add_run(lent, ZP_TASK_WORDS, 6, 8, steps, 2, fresh(), ZP_CHANGED_WORDS) == 12 && differs_at(ZP_AT_LIMIT, 7),
+           "add_run: a limit out of range");
+    lend()[ZP_AT_STEPS + 9] = 300;
+    expect(zp_add_run(lent, ZP_TASK_WORDS, 6, 8, steps, 2, fresh(), ZP_CHANGED_WORDS) == 12 && differs_at(ZP_AT_STEPS + 9, 300),
+           "add_run: step 300 is left as it was");
+    lend();
+    for (size_t run = task[ZP_AT_MANY]; run < ZP_RUNS; run++)
+        expect(zp_add_run(lent, ZP_TASK_WORDS, 0, 0, NULL, 0, fresh(), ZP_CHANGED_WORDS) == 0, "add_run: up to eight");
+    memcpy(task, lent, sizeof task);
+    expect(no_run(ZP_TASK_WORDS, 0, 0, 0, 0), "add_run: no ninth");
+}
+
 int main(void) {
     read_and_records();
     wrong_bytes();
@@ -413,6 +649,14 @@ int main(void) {
     editing_runs();
     listing_runs();
     rejected_steps();
+    morning(file, sizeof file);
+    morning(two_runs, 45);
+    refused_writing();
+    wrong_domains();
+    wrong_problems();
+    names_that_begin_alike();
+    greatest_texts();
+    adding_runs();
     printf(failures == 0 ? "c: every expectation holds\n" : "c: %d expectations failed\n", failures);
     return failures != 0;
 }

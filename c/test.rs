@@ -145,10 +145,67 @@ fn rejected_steps() -> i32 {
     failed + expect(check(&task, 0, &mut answer) == 0 && opens(&answer, &[0, 0, 4, 2, 1]), "rejected: it runs")
 }
 
+/// The story's texts, once its table is mended (02, request 4; docs/PDDL.md).
+const DOMAIN: &str = "(define (domain stage)\n  (:requirements :strips)\n  (:predicates\n    (f0)\n    (f1)\n    (f2)\n    (f3)\n  )\n  \
+(:action a0\n   :parameters ()\n   :precondition (and\n    (f0)\n   )\n   :effect (and\n    (f1)\n    (f2)\n   )\n  )\n  \
+(:action a1\n   :parameters ()\n   :precondition (and\n    (f1)\n   )\n   :effect (and\n   )\n  )\n  \
+(:action a2\n   :parameters ()\n   :precondition (and\n    (f1)\n    (f2)\n   )\n   :effect (and\n    (f3)\n   )\n  )\n)\n";
+const PROBLEM: &str = "(define (problem run)\n  (:domain stage)\n  (:init\n    (f0)\n  )\n  (:goal (and\n    (f3)\n  ))\n)\n";
+
+/// The room holds this text from its first place on, and nothing beside.
+fn holds(room: &[u8], text: &str, answer: &[u64]) -> bool {
+    opens(answer, &[0, 0, text.len() as u64])
+        && opens(room, text.as_bytes())
+        && room.iter().skip(text.len()).all(|byte| *byte == 7)
+}
+
+/// The mended task through its texts and back: read, put together again, and its run valid.
+fn texts(mended: &[u64; TASK_WORDS]) -> i32 {
+    let (mut answer, mut domain, mut problem) = ([7; TASK_ANSWER_WORDS], [7; DOMAIN_BYTES], [7; PROBLEM_BYTES]);
+    let mut built = [0; TASK_WORDS];
+    let mut failed = expect(write_domain(mended, &mut domain, &mut answer) == 0, "texts: write_domain");
+    failed += expect(holds(&domain, DOMAIN, &answer), "texts: the domain text");
+    failed += expect(write_problem(mended, 0, &mut problem, &mut answer) == 0, "texts: write_problem");
+    failed += expect(holds(&problem, PROBLEM, &answer), "texts: the problem text");
+    failed += expect(read_problem(PROBLEM.as_bytes(), 4, &mut answer) == 0, "texts: read_problem");
+    failed += expect(opens(&answer, &[0, 0, 1, 8]), "texts: start and goal");
+    failed += expect(read_domain(DOMAIN.as_bytes(), 3, &mut answer) == 0, "texts: read_domain");
+    for (word, read) in built.iter_mut().zip(answer.iter().skip(2)) {
+        *word = *read;
+    }
+    failed += expect(add_run(&mut built, 1, 8, &[0, 1, 2], &mut answer) == 0, "texts: add_run");
+    failed += expect(built == *mended, "texts: the mended task again");
+    failed + expect(check(&built, 0, &mut answer) == 0 && opens(&answer, &[0, 0, 0, 0, 0]), "texts: its run is valid")
+}
+
+fn refused_texts(mended: &[u64; TASK_WORDS]) -> i32 {
+    let (mut answer, mut room) = ([7; TASK_ANSWER_WORDS], [7; PROBLEM_BYTES]);
+    let mut built = *mended;
+    let mut failed = expect(write_domain(&[0; 635], &mut [], &mut answer) == 12, "texts: 12 before 11");
+    failed += expect(write_domain(mended, &mut [7; DOMAIN.len() - 1], &mut answer) == 11, "texts: a domain's room too short");
+    failed += expect(write_problem(mended, 1, &mut room, &mut answer) == 14, "texts: no such run");
+    failed += expect(write_problem(mended, 0, &mut [], &mut answer) == 11, "texts: a problem's room too short");
+    failed += expect(room == [7; PROBLEM_BYTES], "texts: a refusal writes nothing");
+    failed += expect(read_domain(PROBLEM.as_bytes(), 3, &mut answer) == 17 && opens(&answer, &[17, 9, 0]), "texts: no domain");
+    failed += expect(read_problem(DOMAIN.as_bytes(), 4, &mut answer) == 17 && opens(&answer, &[17, 9, 0, 0]), "texts: no problem");
+    failed += expect(read_problem(PROBLEM.as_bytes(), 65, &mut answer) == 4 && opens(&answer, &[4, 0, 0, 0]), "texts: 65 facts");
+    failed += expect(add_run(&mut built, 16, 8, &[0], &mut answer) == 12 && built == *mended, "texts: a start outside");
+    failed += expect(add_run(&mut built, 1, 8, &[], &mut [7]) == ANSWER_TOO_SHORT && built == *mended, "texts: one answer word");
+    failed + expect(read_problem(PROBLEM.as_bytes(), 4, &mut [7; 3]) == ANSWER_TOO_SHORT, "texts: three answer words")
+}
+
+/// The task with its repairs.
+fn mended(task: &[u64; TASK_WORDS]) -> [u64; TASK_WORDS] {
+    let mut mended = *task;
+    apply(&mut mended, &[97, 224], &mut [7; CHANGED_WORDS]);
+    mended
+}
+
 #[no_mangle]
 pub extern "C" fn main() -> i32 {
     let mut task = [0; TASK_WORDS];
-    let failed = files(&mut task) + lists(&task) + session(&mut task) + runs() + rejected_steps();
+    let failed = files(&mut task) + lists(&task) + texts(&mended(&task)) + refused_texts(&mended(&task));
+    let failed = failed + session(&mut task) + runs() + rejected_steps();
     say(if failed == 0 { "rust: every expectation holds\n" } else { "rust: expectations failed\n" });
     i32::from(failed != 0)
 }

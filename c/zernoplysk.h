@@ -7,8 +7,8 @@
  * A task crosses as ZP_TASK_WORDS words, in the order of the ZP_AT_ places. Any 636 words are a task, well formed or
  * not; a step above 255 counts as 255. Another number of words is refused with 12, place 0, as the task of zeros. Runs
  * are counted from 0.
- * zp_apply and zp_edit change the task in the words that it is lent in; a refused call leaves them exactly as they were,
- * whatever they were and however many.
+ * zp_apply, zp_edit and zp_add_run change the task in the words that it is lent in; a refused call leaves them exactly as
+ * they were, whatever they were and however many.
  *
  * An answer crosses as words in `answer`: the number (0, or the refusal of 01's table and of 02) and the place first,
  * then what the call gives. One rule: if `answer` has fewer words than the call's answer, nothing is called:
@@ -51,6 +51,7 @@ enum {
     /* How many words each kind of answer has. */
     ZP_CHANGED_WORDS = 2,                         /* number, place; the task is changed where it is lent */
     ZP_REPLY_WORDS = 3,                           /* number, place, length */
+    ZP_PROBLEM_WORDS = 4,                         /* number, place, start, goal */
     ZP_CHECKED_WORDS = 5,                         /* number, place, total, step, fact */
     ZP_RECORD_WORDS = 6,                          /* number, place, kind, start, length, next */
     ZP_TASK_ANSWER_WORDS = 2 + ZP_TASK_WORDS,     /* number, place, task */
@@ -60,6 +61,10 @@ enum {
     ZP_FILE_BYTES = 21516,
     ZP_LIST_NUMBERS = 6,
     ZP_LISTING_BYTES = 986,
+
+    /* Room for every domain text, and for every problem text. */
+    ZP_DOMAIN_BYTES = 76178,
+    ZP_PROBLEM_BYTES = 1334,
 
     /* The kinds of cell that an edit names; any other kind is refused with 14. */
     ZP_NEED = 0,
@@ -109,6 +114,32 @@ size_t zp_list(const uint64_t *task, size_t task_len, const uint16_t *table, siz
 /* The listing text of an input into `room`; ZP_LISTING_BYTES are always enough. Answer: ZP_REPLY_WORDS. */
 size_t zp_listing(const uint8_t *input, size_t input_len, uint8_t *room, size_t room_len, uint64_t *answer,
                   size_t answer_len);
+
+/* The table as PDDL (02, request 4; docs/PDDL.md). The texts carry neither the limit nor any steps: those are passed beside
+ * them. */
+
+/* The task's domain text into `room`; ZP_DOMAIN_BYTES are always enough. Answer: ZP_REPLY_WORDS. */
+size_t zp_write_domain(const uint64_t *task, size_t task_len, uint8_t *room, size_t room_len, uint64_t *answer,
+                       size_t answer_len);
+
+/* The problem text of the run with this number into `room`; 14 if the task has no such run. ZP_PROBLEM_BYTES are always
+ * enough. Answer: ZP_REPLY_WORDS. */
+size_t zp_write_problem(const uint64_t *task, size_t task_len, size_t run, uint8_t *room, size_t room_len,
+                        uint64_t *answer, size_t answer_len);
+
+/* The table of a domain text, with this limit, as a task that has no run yet: zp_add_run puts the runs to it, and until
+ * there is one every other call refuses it with 12. Any text outside the layout gets 17; its place is how many bytes at
+ * the beginning still are the beginning of some domain text. Answer: ZP_TASK_ANSWER_WORDS. */
+size_t zp_read_domain(const uint8_t *text, size_t text_len, size_t limit, uint64_t *answer, size_t answer_len);
+
+/* The start and the goal of a problem text over so many facts, those of the domain; 4 if they are not 1 to 64, and 17 as
+ * above, of the problem texts over so many facts. Answer: ZP_PROBLEM_WORDS. */
+size_t zp_read_problem(const uint8_t *text, size_t text_len, size_t facts, uint64_t *answer, size_t answer_len);
+
+/* One run more, after those that the task has, in the task's words: its start and its goal as masks of facts, and an action
+ * for each of its steps. 12 unless the task is then well formed. Answer: ZP_CHANGED_WORDS. */
+size_t zp_add_run(uint64_t *task, size_t task_len, uint64_t start, uint64_t goal, const uint8_t *steps, size_t steps_len,
+                  uint64_t *answer, size_t answer_len);
 
 #ifdef __cplusplus
 }

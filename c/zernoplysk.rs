@@ -1,13 +1,15 @@
 //! Zernoplysk for Rust: the functions of zernoplysk.h declared once, each with a safe function over slices, which is all
 //! that a caller needs (docs/BOUNDARY.md). Link target/staticlib/libboundary.a (x86-64). `answer` is lent for the words
 //! of the answer: number and place first; where it is too short, nothing is called or touched, and `ANSWER_TOO_SHORT` is
-//! returned. `apply` and `edit` change the task in the words that it is lent in; a refused call leaves them as they were.
+//! returned. `apply`, `edit` and `add_run` change the task in the words that it is lent in; a refused call leaves them as they
+//! were.
 
 pub const ANSWER_TOO_SHORT: usize = 255;
 
 pub const TASK_WORDS: usize = 636;
 pub const CHANGED_WORDS: usize = 2;
 pub const REPLY_WORDS: usize = 3;
+pub const PROBLEM_WORDS: usize = 4;
 pub const CHECKED_WORDS: usize = 5;
 pub const RECORD_WORDS: usize = 6;
 pub const TASK_ANSWER_WORDS: usize = 2 + TASK_WORDS;
@@ -17,6 +19,10 @@ pub const TABLE_NUMBERS: usize = 448;
 pub const FILE_BYTES: usize = 21516;
 pub const LIST_NUMBERS: usize = 6;
 pub const LISTING_BYTES: usize = 986;
+
+// Room for every domain text, and for every problem text.
+pub const DOMAIN_BYTES: usize = 76178;
+pub const PROBLEM_BYTES: usize = 1334;
 
 // The kinds of cell that an edit names; any other kind is refused with 14.
 pub const NEED: usize = 0;
@@ -100,6 +106,47 @@ extern "C" {
         input_len: usize,
         room: *mut u8,
         room_len: usize,
+        answer: *mut u64,
+        answer_len: usize,
+    ) -> usize;
+    fn zp_write_domain(
+        task: *const u64,
+        task_len: usize,
+        room: *mut u8,
+        room_len: usize,
+        answer: *mut u64,
+        answer_len: usize,
+    ) -> usize;
+    fn zp_write_problem(
+        task: *const u64,
+        task_len: usize,
+        run: usize,
+        room: *mut u8,
+        room_len: usize,
+        answer: *mut u64,
+        answer_len: usize,
+    ) -> usize;
+    fn zp_read_domain(
+        text: *const u8,
+        text_len: usize,
+        limit: usize,
+        answer: *mut u64,
+        answer_len: usize,
+    ) -> usize;
+    fn zp_read_problem(
+        text: *const u8,
+        text_len: usize,
+        facts: usize,
+        answer: *mut u64,
+        answer_len: usize,
+    ) -> usize;
+    fn zp_add_run(
+        task: *mut u64,
+        task_len: usize,
+        start: u64,
+        goal: u64,
+        steps: *const u8,
+        steps_len: usize,
         answer: *mut u64,
         answer_len: usize,
     ) -> usize;
@@ -256,6 +303,93 @@ pub fn listing(input: &[u8], room: &mut [u8], answer: &mut [u64]) -> usize {
             input.len(),
             room.as_mut_ptr(),
             room.len(),
+            answer.as_mut_ptr(),
+            answer.len(),
+        )
+    }
+}
+
+/// The task's domain text into `room` (02, request 4; docs/PDDL.md); `DOMAIN_BYTES` are always enough. Answer: `REPLY_WORDS`.
+pub fn write_domain(task: &[u64], room: &mut [u8], answer: &mut [u64]) -> usize {
+    // SAFETY: each pointer is good for its length, and what may be written is lent to this call alone.
+    unsafe {
+        zp_write_domain(
+            task.as_ptr(),
+            task.len(),
+            room.as_mut_ptr(),
+            room.len(),
+            answer.as_mut_ptr(),
+            answer.len(),
+        )
+    }
+}
+
+/// The problem text of the run with this number into `room`; 14 if the task has no such run. `PROBLEM_BYTES` are always enough.
+/// Answer: `REPLY_WORDS`.
+pub fn write_problem(task: &[u64], run: usize, room: &mut [u8], answer: &mut [u64]) -> usize {
+    // SAFETY: each pointer is good for its length, and what may be written is lent to this call alone.
+    unsafe {
+        zp_write_problem(
+            task.as_ptr(),
+            task.len(),
+            run,
+            room.as_mut_ptr(),
+            room.len(),
+            answer.as_mut_ptr(),
+            answer.len(),
+        )
+    }
+}
+
+/// The table of a domain text, with this limit, as a task that has no run yet: `add_run` puts the runs to it, and until there
+/// is one every other call refuses it with 12. Any text outside the layout gets 17; its place is how many bytes at the
+/// beginning still are the beginning of some domain text. Answer: `TASK_ANSWER_WORDS`.
+pub fn read_domain(text: &[u8], limit: usize, answer: &mut [u64]) -> usize {
+    // SAFETY: each pointer is good for its length, and what may be written is lent to this call alone.
+    unsafe {
+        zp_read_domain(
+            text.as_ptr(),
+            text.len(),
+            limit,
+            answer.as_mut_ptr(),
+            answer.len(),
+        )
+    }
+}
+
+/// The start and the goal of a problem text over so many facts, those of the domain; 4 if they are not 1 to 64, and 17 as
+/// above, of the problem texts over so many facts. Answer: `PROBLEM_WORDS`.
+pub fn read_problem(text: &[u8], facts: usize, answer: &mut [u64]) -> usize {
+    // SAFETY: each pointer is good for its length, and what may be written is lent to this call alone.
+    unsafe {
+        zp_read_problem(
+            text.as_ptr(),
+            text.len(),
+            facts,
+            answer.as_mut_ptr(),
+            answer.len(),
+        )
+    }
+}
+
+/// One run more, after those that the task has, in the task's words: its start and its goal as masks of facts, and an action for
+/// each of its steps. 12 unless the task is then well formed. Answer: `CHANGED_WORDS`.
+pub fn add_run(
+    task: &mut [u64],
+    start: u64,
+    goal: u64,
+    steps: &[u8],
+    answer: &mut [u64],
+) -> usize {
+    // SAFETY: each pointer is good for its length, and what may be written is lent to this call alone.
+    unsafe {
+        zp_add_run(
+            task.as_mut_ptr(),
+            task.len(),
+            start,
+            goal,
+            steps.as_ptr(),
+            steps.len(),
             answer.as_mut_ptr(),
             answer.len(),
         )

@@ -1,5 +1,6 @@
 """Reading what is given and writing what is asked for. What fails is told with the file's name, and ends mend."""
 
+import contextlib
 import os
 import stat
 import tempfile
@@ -52,19 +53,27 @@ def source_of(path, data):
     return found
 
 
-def judge_outputs(asked, inputs, outputs):
-    """What can be known of the outputs before there is anything to write: each a file of its own in a folder that is there."""
-    seen = {os.path.realpath(asked[word]): asked[word] for word in inputs if word in asked}
-    for word in (word for word in outputs if word in asked):
-        path = asked[word]
+def judge_apart(read, written):
+    """Each path that is to be written, (the option's word, path), is one of its own, and none that is read."""
+    seen = {os.path.realpath(path): path for path in read}
+    for word, path in written:
         real = os.path.realpath(path)
         if real in seen:
             raise Stop(UNABLE, f"{shown(path)}: --{word} would write over {shown(seen[real])}")
         seen[real] = path
-        if os.path.isdir(path):
-            raise Stop(UNABLE, f"{shown(path)}: can't be written: it is a folder")
-        if not os.path.isdir(os.path.dirname(real)):
-            raise Stop(UNABLE, f"{shown(path)}: can't be written: there is no folder {shown(os.path.dirname(path))}")
+
+
+def judge_output(path):
+    """What can be known of an output before there is anything to write: it is no folder, and in one that is there."""
+    if os.path.isdir(path):
+        raise Stop(UNABLE, f"{shown(path)}: can't be written: it is a folder")
+    judge_place(path)
+
+
+def judge_place(path):
+    """What is written stands in a folder that is there."""
+    if not os.path.isdir(os.path.dirname(os.path.realpath(path))):
+        raise Stop(UNABLE, f"{shown(path)}: can't be written: there is no folder {shown(os.path.dirname(path))}")
 
 
 def write(path, data):
@@ -75,21 +84,41 @@ def write(path, data):
             with open(real, "wb") as out:
                 out.write(data)
             return
-        replace(real, data)
+        replace({real: data})
     except (OSError, ValueError) as error:
         raise Stop(UNABLE, f"{shown(path)}: can't be written: {reason(error)}") from None
 
 
-def replace(real, data):
-    mode = os.stat(real).st_mode & 0o777 if os.path.exists(real) else 0o666 & ~umask()
-    handle, scratch = tempfile.mkstemp(dir=os.path.dirname(real), prefix=".mend-")
+def write_in(folder, contents):
+    """Writes plain files, by their names, into a folder, which is made where it is not there: all of them, or none."""
+    is_new = not os.path.isdir(folder)
     try:
-        with os.fdopen(handle, "wb") as out:
-            out.write(data)
-        os.chmod(scratch, mode)
-        os.replace(scratch, real)
+        if is_new:
+            os.mkdir(folder)
+        replace({os.path.realpath(os.path.join(folder, name)): data for name, data in contents.items()})
+    except (OSError, ValueError) as error:
+        if is_new:
+            with contextlib.suppress(OSError):
+                os.rmdir(folder)
+        raise Stop(UNABLE, f"{shown(folder)}: can't be written: {reason(error)}") from None
+
+
+def replace(contents):
+    """Puts plain files in their places once all of them are written."""
+    scratches = {}
+    try:
+        for real, data in contents.items():
+            mode = os.stat(real).st_mode & 0o777 if os.path.exists(real) else 0o666 & ~umask()
+            handle, scratches[real] = tempfile.mkstemp(dir=os.path.dirname(real), prefix=".mend-")
+            with os.fdopen(handle, "wb") as out:
+                out.write(data)
+            os.chmod(scratches[real], mode)
+        for real, scratch in scratches.items():
+            os.replace(scratch, real)
     except BaseException:
-        os.unlink(scratch)
+        for scratch in scratches.values():
+            with contextlib.suppress(OSError):
+                os.unlink(scratch)
         raise
 
 

@@ -1,8 +1,9 @@
-"""What mend is given: a source or a task file, and the source that lends names. All that can be judged before the program is
-asked is judged here."""
+"""What mend is given: a source or a task file, the source that lends names, and the PDDL texts that take the place of its table.
+All that can be judged before the program is asked is judged here."""
 
 import files
 import options
+import pddl
 import words
 from source import DAMAGE
 from stop import UNABLE, Stop
@@ -25,6 +26,10 @@ class Given:
         self.fault = fault(self.data)
         self.notes = []  # what else is to be said of a refused file
         self.lender = self.lender_of(asked["names"]) if "names" in asked else self.source
+        self.called, self.texts = self.path, {}  # what the answer is headed by; the PDDL texts, path by path
+        if "from-pddl" in asked and self.fault is None:
+            self.called = f"{files.shown(asked['from-pddl'])} with {self.path}"
+            self.texts = pddl.texts_in(asked["from-pddl"], self.path, len(self.task().runs))
 
     def lender_of(self, path):
         """The source that lends names; it has to have as many as there are facts and actions. A refused file is told all the
@@ -45,6 +50,10 @@ class Given:
 
     def task(self):
         return task_of(self.data)
+
+    def take_texts(self, library):
+        """Puts the task of the PDDL texts in the place of the file's own."""
+        self.data = pddl.task_file(self.texts, self.path, self.data, library)
 
     def names(self, runs=None):
         """The lender's names of the facts and actions that the file has; those of its runs if it has so many."""

@@ -10,10 +10,11 @@ from stop import UNABLE, Stop
 DRIVER = ROOT / "target" / "c" / "driver"
 
 READ, WRITE, CHECK, APPLY, SOLVE = 2, 3, 4, 5, 6
+WRITE_DOMAIN, WRITE_PROBLEM, READ_DOMAIN, READ_PROBLEM, ADD_RUN = 11, 12, 13, 14, 15
 
 # The places of a task's words (c/zernoplysk.h).
-AT_MANY, AT_GOALS, AT_COUNTS, AT_STEPS = 99, 108, 116, 124
-STEPS, LONGEST_FILE, LONGEST_LIST = 64, 21516, 6
+AT_FACTS, AT_ACTIONS, AT_LIMIT, AT_MANY, AT_GOALS, AT_COUNTS, AT_STEPS = 0, 1, 2, 99, 108, 116, 124
+STEPS, LONGEST_FILE, LONGEST_LIST, LONGEST_DOMAIN, LONGEST_PROBLEM = 64, 21516, 6, 76178, 1334
 
 
 class Library:
@@ -45,6 +46,16 @@ class Library:
     def file(self, task):
         (length,), room = self.call(WRITE, task, bytes(LONGEST_FILE))
         return room[:length]
+
+    def texts(self, task):
+        """The task as PDDL (02, request 4): its domain text, and the problem text of each run."""
+        asked = [(WRITE_DOMAIN, task, bytes(LONGEST_DOMAIN))]
+        asked += [(WRITE_PROBLEM, [*task, run], bytes(LONGEST_PROBLEM)) for run in range(task[AT_MANY])]
+        return [data[: accepted(words)[0]] for words, data in self.ask(asked)]
+
+    def with_run(self, task, start, goal, steps):
+        """The task with one more run: its start and goal as masks, its steps one byte each."""
+        return self.call(ADD_RUN, [*task, start, goal], steps)[0]
 
     def presence(self, task, facts):
         """For each run, and each number of its steps from none to all, the facts of these that are present after so many: those
@@ -84,6 +95,11 @@ def accepted(words):
     if words[0] != 0:
         raise Stop(UNABLE, f"mend: the library refuses with {words[0]} what the program accepts: {refusals.told(words[0])}")
     return words[2:]
+
+
+def steps_of(task, run):
+    at = AT_STEPS + STEPS * run
+    return bytes(task[at : at + task[AT_COUNTS + run]])
 
 
 def cut(task, run, done, goals):

@@ -17,6 +17,7 @@ import draw_text
 import files
 import judging
 import options
+import pddl
 import picture
 import source
 import words
@@ -36,9 +37,11 @@ def mend(arguments, out):
         out.write(options.help_text())
         return LIST
     given = Given(asked)
-    files.judge_outputs(asked, INPUTS, OUTPUTS)
+    judge_outputs(asked, given)
     if given.fault is not None and not is_built():
         raise refused(given, f"refused at byte {given.fault}, before the program is proved and built", given.fault)
+    if given.texts:
+        given.take_texts(Library())
     if "task" in asked:
         files.write(asked["task"], given.data)
     found = listing_of(given.data)
@@ -51,12 +54,27 @@ def mend(arguments, out):
         raise refused(given, words.refusal(found), place, number)
     names = given.names(len(found.opens))
     if "numbers" not in asked:
-        out.write("\n".join(words.answer(given.path, found, names, given.task().runs)) + "\n")
+        out.write("\n".join(words.answer(given.called, found, names, given.task().runs)) + "\n")
     if "show" in asked or "svg" in asked:
         draw(asked, given, found, names, out)
     if "table" in asked:
         write_table(asked["table"], given, found)
+    if "pddl" in asked:
+        write_pddl(asked, given, found, names)
     return LIST if found.refusal is None else NO_LIST
+
+
+def judge_outputs(asked, given):
+    """All outputs, before there is anything to write. With a file that is refused, PDDL is not."""
+    read = [*(asked[word] for word in INPUTS if word in asked), *given.texts]
+    written = [(word, asked[word]) for word in OUTPUTS if word in asked]
+    many = len(given.task().runs) if "pddl" in asked and given.fault is None else 0
+    folder = [asked["pddl"], *pddl.paths(asked["pddl"], many)] if many else []
+    files.judge_apart(read, written + [("pddl", path) for path in folder])
+    for _, path in written:
+        files.judge_output(path)
+    if many:
+        pddl.judge(asked["pddl"], given.path, many, "force" in asked)
 
 
 def refused(given, what, place, number=None):
@@ -66,7 +84,7 @@ def refused(given, what, place, number=None):
 
 
 def draw(asked, given, found, names, out):
-    drawn = picture.drawn(given.path, given.data, found, names, Library())
+    drawn = picture.drawn(given.called, given.data, found, names, Library())
     if "show" in asked:
         columns = shutil.get_terminal_size((100, 24)).columns
         out.write("\n" + "\n".join(draw_text.lines(drawn, columns, colours.allowed(sys.stdout))) + "\n")
@@ -84,6 +102,17 @@ def write_table(path, given, found):
     if judging.errors(again) or file_of(again) != applied:
         raise Stop(UNABLE, f"{files.shown(path)}: not written: the corrected source is not what the library's apply gives")
     files.write(path, text.encode())
+
+
+def write_pddl(asked, given, found, names):
+    """The repaired table and its runs as PDDL, with a legend; the texts are the library's."""
+    folder, (facts, actions, *_), many = asked["pddl"], found.sizes, len(found.opens)
+    if found.refusal:
+        raise Stop(NO_LIST, pddl.nothing_written(folder, "there is no correction to make"))
+    library = Library()
+    texts = library.texts(library.mended(library.task(given.data)))
+    pddl.judge(folder, given.path, many, "force" in asked)  # once more: proving may have taken minutes
+    pddl.write(folder, texts, pddl.legend(names, facts, actions, many))
 
 
 def told(lines):

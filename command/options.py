@@ -1,21 +1,30 @@
-"""The arguments. Every option has one shape, `--WORD` or `--WORD FILE`; a further one is a further line of OPTIONS."""
+"""The arguments. Every option has one shape, `--WORD` or `--WORD FILE`, where FILE may be a folder; a further one is a further
+line of OPTIONS."""
 
 import difflib
 
 from stop import UNABLE, Stop
 
+FOLDER = "FOLDER"
 OPTIONS = {  # word: (what it takes, what it does)
     "numbers": (None, "print the proved program's listing, unchanged"),
     "show": (None, "draw each run, before and after the correction"),
     "svg": ("OUT", "write the same drawing as a picture"),
     "table": ("OUT", "write the source with the correction made"),
     "task": ("OUT", "write the source's task file"),
+    "pddl": (FOLDER, "write the repaired table and its runs as PDDL, with a legend"),
+    "force": (None, "let --pddl write over files that stand there"),
+    "from-pddl": (FOLDER, "take table, starts and goals from such a folder, not from FILE"),
     "names": ("SOURCE", "take the names for a task file from a source"),
     "help": (None, "print this"),
 }
 
-# Options that can't both be given, and why.
-APART = [("numbers", "show", "the listing would not be unchanged")]
+# Options that can't both be given, and why; and those that go with another one only.
+APART = [
+    ("numbers", "show", "the listing would not be unchanged"),
+    ("table", "from-pddl", "the table is then not the source's"),
+]
+BESIDE = [("force", "pddl")]
 
 HELP = """mend FILE [OPTIONS]: what to change in an action table so that the runs that the bench does are valid ones
 
@@ -71,10 +80,12 @@ def take(asked, word, value, rest):
         raise wrong_use(f"--{word} is given twice")
     if takes and value is None:
         if not rest:
-            raise wrong_use(f"--{word} needs a file: --{word} {takes}")
+            raise wrong_use(f"--{word} needs a {'folder' if takes == FOLDER else 'file'}: --{word} {takes}")
         value = rest.pop(0)
     if not takes and value is not None:
         raise wrong_use(f"--{word} takes nothing")
+    if takes == FOLDER:
+        value = value.rstrip("/") or value  # it is the same one with a slash at its end
     asked[word] = value if takes else True
 
 
@@ -86,4 +97,7 @@ def judged(asked, files):
     for one, other, why in APART:
         if one in asked and other in asked:
             raise wrong_use(f"--{one} and --{other} can't both be given: {why}")
+    for one, other in BESIDE:
+        if one in asked and other not in asked:
+            raise wrong_use(f"--{one} is for --{other}, which is not given")
     return {**asked, "file": files[0]}

@@ -1,9 +1,9 @@
-"""What each refusal number says in words (document 01, "Refusal numbers"; 16, and the runs of 14: 02's request 1). They stand
-here alone."""
+"""What each refusal number says in words (document 01, "Refusal numbers"; 16, and the runs of 14: 02's request 1; 17: its request
+4). They stand here alone."""
 
 from taskfile import MOST_ACTIONS, MOST_FACTS, MOST_LIMIT, MOST_RUNS, MOST_STEPS
 
-UNKNOWN_KIND, OUTSIDE, DISORDERED = 2, 5, 6
+UNKNOWN_KIND, OUTSIDE, DISORDERED, OFF_THE_LAYOUT = 2, 5, 6, 17
 
 WORDS = {
     1: "the end record is missing, or a record passes the end of the file",
@@ -22,6 +22,7 @@ WORDS = {
     14: "a fact, an action or a run is not there",
     15: "the list of repairs doesn't ascend, or one of them is not permitted",
     16: f"there are more than {MOST_RUNS} runs",
+    17: "the text is not of the layout",
 }
 
 

@@ -160,7 +160,7 @@ class Terminal(Case):
 
 class Words(Case):
     def test_every_number_has_words(self):
-        self.assertEqual(sorted(refusals.WORDS), list(range(1, 17)))
+        self.assertEqual(sorted(refusals.WORDS), list(range(1, 18)))
         self.assertEqual({number: refusals.told(number) for number in SAID}, SAID)
         self.assertEqual([each for each in map(refusals.told, refusals.WORDS) if "{" in each or each.endswith(".")], [])
 

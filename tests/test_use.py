@@ -10,6 +10,7 @@ STORY, TASK = SAMPLES / "story.txt", SAMPLES / "story.task"
 TELLS = " (mend --help tells how it is used)"
 NO_TEXT = " (nor is this a source: it is no text in UTF-8)"
 CAN_T_WRITE = "mend: standard output can't be written: "
+CAN_T_BOTH, NO_SOURCE = "can't both be given", "the table is then not the source's"
 
 
 class WrongUse(Case):
@@ -20,9 +21,12 @@ class WrongUse(Case):
             ("--shw", STORY): "there is no option --shw; did you mean --show?",
             ("-x", STORY): "there is no option --x",
             (STORY, "--task"): "--task needs a file: --task OUT",
+            (STORY, "--pddl"): "--pddl needs a folder: --pddl FOLDER",
             (STORY, "--show=yes"): "--show takes nothing",
             (STORY, "--show", "--show"): "--show is given twice",
-            (STORY, "--show", "--numbers"): "--numbers and --show can't both be given: the listing would not be unchanged",
+            (STORY, "--show", "--numbers"): f"--numbers and --show {CAN_T_BOTH}: the listing would not be unchanged",
+            (STORY, "--from-pddl", "x", "--table", "x"): f"--table and --from-pddl {CAN_T_BOTH}: {NO_SOURCE}",
+            (STORY, "--force"): "--force is for --pddl, which is not given",
             (TASK, "--table", "x"): f"--table is not for a task file, and {TASK} is one",
             (TASK, "--task", "x"): f"--task is not for a task file, and {TASK} is one",
             (STORY, "--names", STORY): f"--names is not for a source, and {STORY} is one",
@@ -35,7 +39,8 @@ class WrongUse(Case):
 
     def test_help(self):
         told = self.expect(mend("--help"), LIST)
-        for word in ("--numbers", "--show", "--svg OUT", "--table OUT", "--task OUT", "--names SOURCE", "Exit status"):
+        words = ["--numbers", "--show", "--svg OUT", "--table OUT", "--task OUT", "--names SOURCE", "Exit status"]
+        for word in [*words, "--pddl FOLDER", "--force", "--from-pddl FOLDER"]:
             self.assertIn(word, told)
         self.assertEqual([line[2] for line in told.splitlines() if line[:2] == "  " and line[2].isdigit()], list("0123"))
 

@@ -2,7 +2,7 @@
 
 use crate::answer::lend;
 use crate::refusal::{at, Ground, Refusal};
-use crate::task::{has, sizes_in_range, with, Action, Facts, Run, Task, MOST_FACTS, MOST_RUNS, MOST_STEPS};
+use crate::task::{facts_in, sizes_in_range, with, Action, Facts, Run, Task, MOST_RUNS, MOST_STEPS};
 
 pub const SIZES: u8 = 1;
 pub const START: u8 = 2;
@@ -211,7 +211,7 @@ pub fn file_of(task: &Task) -> Vec<u8> {
 
 /// The records of a run's starts and goals.
 fn ends_of(run: &Run) -> Vec<u8> {
-    let of_kind = |(kind, set)| facts_in(set).flat_map(move |fact| [kind, fact]);
+    let of_kind = |(kind, set)| facts_in(set).flat_map(move |fact| [kind, fact as u8]);
     [(START, run.start), (GOAL, run.goal)].into_iter().flat_map(of_kind).collect()
 }
 
@@ -220,15 +220,10 @@ fn table_of(task: &Task) -> Vec<u8> {
     let mut records = Vec::new();
     for kind in [NEED, ADD, DELETE] {
         for (index, action) in task.table[..task.actions].iter().enumerate() {
-            records.extend(facts_in(cells(action, kind)).flat_map(|fact| [kind, index as u8, fact]));
+            records.extend(facts_in(cells(action, kind)).flat_map(|fact| [kind, index as u8, fact as u8]));
         }
     }
     records
-}
-
-/// The facts of a set, ascending.
-fn facts_in(set: Facts) -> impl Iterator<Item = u8> {
-    (0..MOST_FACTS).filter(move |&fact| has(set, fact)).map(|fact| fact as u8)
 }
 
 /// The set of an action that the records of this kind list.

@@ -18,9 +18,14 @@ pub enum Call {
     Edit = 8,
     List = 9,
     Listing = 10,
+    WriteDomain = 11,
+    WriteProblem = 12,
+    ReadDomain = 13,
+    ReadProblem = 14,
+    AddRun = 15,
 }
 
-pub const CALLS: [Call; 10] = [
+pub const CALLS: [Call; 15] = [
     Call::Record,
     Call::Read,
     Call::Write,
@@ -31,9 +36,19 @@ pub const CALLS: [Call; 10] = [
     Call::Edit,
     Call::List,
     Call::Listing,
+    Call::WriteDomain,
+    Call::WriteProblem,
+    Call::ReadDomain,
+    Call::ReadProblem,
+    Call::AddRun,
 ];
 
 impl Call {
+    /// True if what is lent as bytes is a PDDL text, or room for one.
+    pub fn lends_text(self) -> bool {
+        [Call::WriteDomain, Call::WriteProblem, Call::ReadDomain, Call::ReadProblem].contains(&self)
+    }
+
     fn of_op(op: u8) -> Option<Call> {
         CALLS.into_iter().find(|&call| call as u8 == op)
     }
@@ -53,15 +68,15 @@ pub struct Response {
 }
 
 impl Request {
-    /// The words that the request lends as a task, however many they are; none for a call on a file.
+    /// The words that the request lends as a task, however many they are; none for a call on a file or a text.
     pub fn task_words(&self) -> Option<&[u64]> {
         match self.call {
-            Call::Record | Call::Read | Call::Listing => None,
+            Call::Record | Call::Read | Call::Listing | Call::ReadDomain | Call::ReadProblem => None,
             _ => Some(self.parted().0),
         }
     }
 
-    /// The words that stand behind the task: a run, an edit, or how many numbers are the table.
+    /// The words that stand behind the task: a run, an edit, how many numbers are the table, or a start and a goal.
     pub fn more_words(&self) -> &[u64] {
         self.parted().1
     }
@@ -69,7 +84,8 @@ impl Request {
     fn parted(&self) -> (&[u64], &[u64]) {
         let more = match self.call {
             Call::Edit => 4,
-            Call::Check | Call::List => 1,
+            Call::AddRun => 2,
+            Call::Check | Call::List | Call::WriteProblem => 1,
             _ => 0,
         };
         self.words.split_at(self.words.len() - more)

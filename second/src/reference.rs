@@ -3,6 +3,7 @@
 use crate::answer::{answer, lend, Budget};
 use crate::file::{read, record_at, write};
 use crate::listing::listing_by;
+use crate::pddl::{add_run, read_domain, read_problem, write_domain, write_problem};
 use crate::protocol::{bytes_of, numbers_of, Call, Request, Response};
 use crate::refusal::{Refusal, Stop};
 use crate::repair::apply;
@@ -51,43 +52,48 @@ impl Reference {
     pub fn respond(&mut self, request: &Request) -> Option<Response> {
         self.means = Means::None;
         let words = request.task_words().unwrap_or(&[]);
+        let task = Task::from_words(words);
         let bytes = &request.bytes;
         match request.call {
             Call::Record => Some(record_response(bytes, request.words[0])),
-            Call::Read => Some(read_response(bytes)),
-            Call::Write => {
-                let mut room = bytes.clone();
-                let length = write(&Task::from_words(words), &mut room);
-                length_response(length.map_err(Stop::from), room)
-            }
-            Call::Check => Some(check_response(&Task::from_words(words), request.more_words()[0])),
-            Call::Apply => {
-                let repaired = apply(&Task::from_words(words), &numbers_of(bytes));
-                task_response(words, repaired.map_err(Stop::from), vec![])
-            }
-            Call::Solve => {
-                let mut room = numbers_of(bytes);
-                let found = self.solve(&Task::from_words(words));
-                let length = found.and_then(|list| Ok(lend(&list, &mut room)?));
-                length_response(length, bytes_of(&room))
-            }
-            Call::Open => {
-                let mut table = numbers_of(bytes);
-                let length = open(&Task::from_words(words), &mut table, self.budgets.row);
-                length_response(length, bytes_of(&table))
-            }
+            Call::Read => Some(read_response(read(bytes))),
+            Call::Write => written_response(bytes, |room| write(&task, room)),
+            Call::Check => Some(check_response(&task, request.more_words()[0])),
+            Call::Apply => task_response(words, apply(&task, &numbers_of(bytes)).map_err(Stop::from), vec![]),
+            Call::Solve => self.solve_response(&task, bytes),
+            Call::Open => self.open_response(&task, bytes),
             Call::Edit => {
                 let mut table = numbers_of(bytes);
-                let asked = edit_of(request.more_words());
-                let edited = edit(&Task::from_words(words), &asked, &mut table, self.budgets.row);
+                let edited = edit(&task, &edit_of(request.more_words()), &mut table, self.budgets.row);
                 task_response(words, edited, bytes_of(&table))
             }
-            Call::List => list_response(&Task::from_words(words), request.more_words()[0] as usize, bytes),
+            Call::List => list_response(&task, request.more_words()[0] as usize, bytes),
             Call::Listing => {
                 let text = listing_by(bytes, |task| self.solve(task)).ok()?;
                 Some(Response { words: vec![], bytes: text.into_bytes() })
             }
+            Call::WriteDomain => written_response(bytes, |room| write_domain(&task, room)),
+            Call::WriteProblem => written_response(bytes, |room| write_problem(&task, request.more_words()[0], room)),
+            Call::ReadDomain => Some(read_response(read_domain(bytes, request.words[0] as usize))),
+            Call::ReadProblem => Some(problem_response(bytes, request.words[0])),
+            Call::AddRun => {
+                let [start, goal] = [0, 1].map(|place| request.more_words()[place]);
+                task_response(words, add_run(&task, start, goal, bytes).map_err(Stop::from), vec![])
+            }
         }
+    }
+
+    fn solve_response(&mut self, task: &Task, bytes: &[u8]) -> Option<Response> {
+        let mut room = numbers_of(bytes);
+        let found = self.solve(task);
+        let length = found.and_then(|list| Ok(lend(&list, &mut room)?));
+        length_response(length, bytes_of(&room))
+    }
+
+    fn open_response(&self, task: &Task, bytes: &[u8]) -> Option<Response> {
+        let mut table = numbers_of(bytes);
+        let length = open(task, &mut table, self.budgets.row);
+        length_response(length, bytes_of(&table))
     }
 
     /// The answer by its definition, or by the join of rows where that is too dear.
@@ -131,10 +137,18 @@ fn record_response(file: &[u8], place: u64) -> Response {
     }
 }
 
-fn read_response(file: &[u8]) -> Response {
-    match read(file) {
+/// A refused read gives a task of zeros, of a file as of a domain text.
+fn read_response(read: Result<Task, Refusal>) -> Response {
+    match read {
         Ok(task) => accepted(&task.words(), vec![]),
         Err(refusal) => refused(&refusal, &Task::zeros().words(), vec![]),
+    }
+}
+
+fn problem_response(text: &[u8], facts: u64) -> Response {
+    match read_problem(text, facts) {
+        Ok((start, goal)) => accepted(&[start, goal], vec![]),
+        Err(refusal) => refused(&refusal, &[0; 2], vec![]),
     }
 }
 
@@ -153,6 +167,13 @@ fn list_response(task: &Task, length: usize, bytes: &[u8]) -> Option<Response> {
     let joined = list(task, table);
     let length = joined.and_then(|list| lend(&list, &mut room));
     length_response(length.map_err(Stop::from), bytes_of(&room))
+}
+
+/// What is written into room that is lent as these bytes.
+fn written_response(room: &[u8], write: impl FnOnce(&mut [u8]) -> Result<usize, Refusal>) -> Option<Response> {
+    let mut room = room.to_vec();
+    let length = write(&mut room);
+    length_response(length.map_err(Stop::from), room)
 }
 
 /// Number, place, length, and what was lent.

@@ -20,6 +20,8 @@ pub enum Ground {
     NotThere = 14,
     RepairList = 15,
     TooManyRuns = 16,
+    /// Of a PDDL text (02, request 4).
+    OutsideLayout = 17,
 }
 
 /// A refusal: its ground and its place.

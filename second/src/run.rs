@@ -1,6 +1,6 @@
 //! The runs of a task: what a step does, whether a run is valid, and the run check ("The run check"; 02, request 3).
 
-use crate::refusal::{plain, Ground, Refusal};
+use crate::refusal::Refusal;
 use crate::task::{Action, Facts, Run, Task};
 
 /// "Afterwards the state is (state without deletes) joined with adds": add wins.
@@ -41,11 +41,7 @@ pub struct Open {
 
 /// The run check of the run with this number, counted from 0: 12, then 14 for a run that isn't there.
 pub fn check(task: &Task, run: u64) -> Result<Open, Refusal> {
-    task.must_be_well_formed()?;
-    if !task.has_run(run) {
-        return Err(plain(Ground::NotThere));
-    }
-    Ok(open_needs(&task.runs[run as usize], &task.table))
+    Ok(open_needs(task.run(run)?, &task.table))
 }
 
 /// The open needs of a run of a well-formed task, in the states that the controller has.

@@ -20,6 +20,11 @@ pub fn has(set: Facts, fact: usize) -> bool {
     set >> fact & 1 == 1
 }
 
+/// The facts of a set, ascending.
+pub fn facts_in(set: Facts) -> impl Iterator<Item = usize> {
+    (0..MOST_FACTS).filter(move |&fact| has(set, fact))
+}
+
 /// The set that holds this one fact.
 pub fn only(fact: usize) -> Facts {
     1 << fact
@@ -150,6 +155,15 @@ impl Task {
     /// True if there is a run with this number, counted from 0.
     pub fn has_run(&self, run: u64) -> bool {
         run < self.many as u64
+    }
+
+    /// The run with this number, counted from 0: 12, then 14 for a run that isn't there.
+    pub fn run(&self, run: u64) -> Result<&Run, Refusal> {
+        self.must_be_well_formed()?;
+        if !self.has_run(run) {
+            return Err(plain(Ground::NotThere));
+        }
+        Ok(&self.runs[run as usize])
     }
 
     /// The task's words: facts, actions, limit, needs, adds, deletes, how many runs, their starts, goals and counts, and

@@ -4,10 +4,14 @@ use std::process::{Command, Output};
 
 const SECOND: &str = env!("CARGO_BIN_EXE_second");
 
-fn compare(driver: &[&str]) -> Output {
+/// How many cases of each sort are compared.
+const ALL: [&str; 8] = ["--tasks", "1500", "--files", "1500", "--edits", "1500", "--texts", "400"];
+const WITHOUT_TEXTS: [&str; 8] = ["--tasks", "1500", "--files", "1500", "--edits", "1500", "--texts", "0"];
+const ONLY_TEXTS: [&str; 8] = ["--tasks", "0", "--files", "0", "--edits", "0", "--texts", "400"];
+
+fn compare(driver: &[&str], cases: [&str; 8]) -> Output {
     let mut command = Command::new(SECOND);
-    command.args(["compare", "--driver"]).args(driver).arg("--");
-    command.args(["--seed", "7", "--tasks", "1500", "--files", "1500", "--edits", "1500"]);
+    command.args(["compare", "--driver"]).args(driver).args(["--", "--seed", "7"]).args(cases);
     command.output().expect("the second program runs")
 }
 
@@ -33,14 +37,16 @@ fn places_met(printed: &str, number: u64) -> Vec<bool> {
 
 #[test]
 fn a_right_driver_passes() {
-    let output = compare(&[SECOND, "drive"]);
+    let output = compare(&[SECOND, "drive"], ALL);
     assert!(output.status.success(), "{}", text(&output));
     assert!(text(&output).starts_with("seed 7\n"));
-    assert!(text(&output).contains("compared 1500 tasks, 1500 files, 1500 edits"));
+    assert!(text(&output).contains("compared 1500 tasks, 1500 files, 1500 edits, 400 tasks as texts"));
     assert_eq!(places_met(&text(&output), 5), [false, true, true]);
     assert_eq!(places_met(&text(&output), 6), [true, true, false]);
     let totals = met(&text(&output), "runs checked, total equal to the old rule's, greater, smaller");
     assert_eq!(totals, [true, true, true], "a total that only one of the two rules gives");
+    let places = "texts refused 17, at their end, behind a good text, behind a digit, elsewhere";
+    assert_eq!(met(&text(&output), places), [true; 4]);
 }
 
 #[test]
@@ -48,7 +54,8 @@ fn each_fault_is_found_and_shown() {
     let faults = faults();
     assert!(faults.len() >= 20, "the faults are named");
     for fault in faults {
-        let output = compare(&[SECOND, "drive", "--break", &fault]);
+        let cases = if fault.starts_with("pddl-") { ONLY_TEXTS } else { WITHOUT_TEXTS };
+        let output = compare(&[SECOND, "drive", "--break", &fault], cases);
         assert_eq!(output.status.code(), Some(1), "{fault} passed:\n{}", text(&output));
         assert!(text(&output).contains("different: seed 7, case"), "{fault}");
         assert!(text(&output).contains("\nfile: "), "{fault}");
@@ -58,13 +65,13 @@ fn each_fault_is_found_and_shown() {
 
 #[test]
 fn a_driver_that_says_nothing_is_found() {
-    let output = compare(&["true"]);
+    let output = compare(&["true"], WITHOUT_TEXTS);
     assert_eq!(output.status.code(), Some(1));
     assert!(text(&output).contains("got nothing"));
 }
 
 #[test]
 fn a_driver_that_is_not_there_is_told() {
-    let output = compare(&["./no-such-driver"]);
+    let output = compare(&["./no-such-driver"], WITHOUT_TEXTS);
     assert_eq!(output.status.code(), Some(2));
 }

@@ -1,6 +1,6 @@
 -- What a call of each function of the boundary gives, by the contract above the function and by nothing else, is what specs/Calls says.
 -- What it gives, o, is the number returned (.0), the answer's words (.1) and what else was lent to be written: the room or the table
--- (.2); of zp_apply the task's words (.2); of zp_edit the task's words (.2) and the table (.3). Assumes nothing.
+-- (.2); of zp_apply and zp_add_run the task's words (.2); of zp_edit the task's words (.2) and the table (.3). Assumes nothing.
 use mathlib.Core.List.{List}
 use Prim.Native.Nat.{ℕ}
 use denote.Ref.{RefT, now}
@@ -16,7 +16,12 @@ use Rattle.boundary.proofs.zp_open.Reads as zp-open
 use Rattle.boundary.proofs.zp_edit.Reads as zp-edit
 use Rattle.boundary.proofs.zp_list.Reads as zp-list
 use Rattle.boundary.proofs.zp_listing.Reads as zp-listing
-use Rattle.boundary.specs.BoundaryCalls.{HandsRecord, ReadsTask, WritesTask, ChecksRun, AppliesList, SolvesTask, OpensSession, EditsSession, ListsSession, ListsInput}
+use Rattle.boundary.proofs.texts.zp_write_domain.Reads as zp-write-domain
+use Rattle.boundary.proofs.texts.zp_write_problem.Reads as zp-write-problem
+use Rattle.boundary.proofs.texts.zp_read_domain.Reads as zp-read-domain
+use Rattle.boundary.proofs.texts.zp_read_problem.Reads as zp-read-problem
+use Rattle.boundary.proofs.texts.zp_add_run.Reads as zp-add-run
+use Rattle.boundary.specs.BoundaryCalls.{HandsRecord, ReadsTask, WritesTask, ChecksRun, AppliesList, SolvesTask, OpensSession, EditsSession, ListsSession, ListsInput, WritesDomain, WritesProblem, HandsDomain, HandsProblem, AddsRun}
 
 -- ---- the ways in which slices are lent
 
@@ -28,7 +33,7 @@ abbrev Reading : {K : Type 0} → (K → Lent × (Lent × Unit {0}) → ℕ → 
 Reading Post read answer =
     Call {I = List ℕ × List ℕ} {O = ℕ × List ℕ} Post (λ a. (now (a .0), now (a .1 .0))) (λ r b. (r, now (b .1 .0))) (read, answer)
 
--- The same with a number that says where: a place of a file, a run of a task.
+-- The same with a number: a place of a file, a run of a task, the limit or the facts of a text.
 abbrev ReadingAt : {K : Type 0} → (K → Lent × (ℕ × (Lent × Unit {0})) → ℕ → Lent × (ℕ × (Lent × Unit {0})) → Type 0)
     → List ℕ → ℕ → List ℕ → ℕ × List ℕ → Type 0
 ReadingAt Post read at answer =
@@ -121,6 +126,51 @@ zp-edit-gives ws kind whose fact present table answer =
     call-keeps (λ i o. EditsSession (i .0) (o .2) (i .1) (i .2) (i .3) (i .4) (i .5) (o .3) (i .6) (o .1) (o .0)) (λ k a r b p. p)
     (ws, kind, whose, fact, present, table, answer)
 
+-- ---- 02, request 4
+
+abbrev pub ZpWriteDomainGives : List ℕ → List ℕ → List ℕ → ℕ × List ℕ × List ℕ → Type 0
+ZpWriteDomainGives = Filling zp-write-domain.Post
+
+pub zp-write-domain-gives : (ws room answer : List ℕ) (o : ℕ × List ℕ × List ℕ) → ZpWriteDomainGives ws room answer o
+    → WritesDomain ws room (o .2) answer (o .1) (o .0)
+zp-write-domain-gives ws room answer = call-keeps (λ i o. WritesDomain (i .0) (i .1) (o .2) (i .2) (o .1) (o .0)) (λ k a r b p. p) (ws, room, answer)
+
+abbrev pub ZpWriteProblemGives : List ℕ → ℕ → List ℕ → List ℕ → ℕ × List ℕ × List ℕ → Type 0
+ZpWriteProblemGives ws run room answer =
+    Call {I = List ℕ × ℕ × List ℕ × List ℕ} {O = ℕ × List ℕ × List ℕ} zp-write-problem.Post
+    (λ a. (now (a .0), a .1 .0, now (a .1 .1 .0), now (a .1 .1 .1 .0))) (λ r b. (r, now (b .1 .1 .1 .0), now (b .1 .1 .0)))
+    (ws, run, room, answer)
+
+pub zp-write-problem-gives : (ws : List ℕ) (run : ℕ) (room answer : List ℕ) (o : ℕ × List ℕ × List ℕ)
+    → ZpWriteProblemGives ws run room answer o → WritesProblem ws run room (o .2) answer (o .1) (o .0)
+zp-write-problem-gives ws run room answer =
+    call-keeps (λ i o. WritesProblem (i .0) (i .1) (i .2) (o .2) (i .3) (o .1) (o .0)) (λ k a r b p. p) (ws, run, room, answer)
+
+abbrev pub ZpReadDomainGives : List ℕ → ℕ → List ℕ → ℕ × List ℕ → Type 0
+ZpReadDomainGives = ReadingAt zp-read-domain.Post
+
+pub zp-read-domain-gives : (text : List ℕ) (limit : ℕ) (answer : List ℕ) (o : ℕ × List ℕ) → ZpReadDomainGives text limit answer o
+    → HandsDomain text limit answer (o .1) (o .0)
+zp-read-domain-gives text limit answer = call-keeps (λ i o. HandsDomain (i .0) (i .1) (i .2) (o .1) (o .0)) (λ k a r b p. p) (text, limit, answer)
+
+abbrev pub ZpReadProblemGives : List ℕ → ℕ → List ℕ → ℕ × List ℕ → Type 0
+ZpReadProblemGives = ReadingAt zp-read-problem.Post
+
+pub zp-read-problem-gives : (text : List ℕ) (facts : ℕ) (answer : List ℕ) (o : ℕ × List ℕ) → ZpReadProblemGives text facts answer o
+    → HandsProblem text facts answer (o .1) (o .0)
+zp-read-problem-gives text facts answer = call-keeps (λ i o. HandsProblem (i .0) (i .1) (i .2) (o .1) (o .0)) (λ k a r b p. p) (text, facts, answer)
+
+abbrev pub ZpAddRunGives : List ℕ → ℕ → ℕ → List ℕ → List ℕ → ℕ × List ℕ × List ℕ → Type 0
+ZpAddRunGives ws start goal steps answer =
+    Call {I = List ℕ × ℕ × ℕ × List ℕ × List ℕ} {O = ℕ × List ℕ × List ℕ} zp-add-run.Post
+    (λ a. (now (a .0), a .1 .0, a .1 .1 .0, now (a .1 .1 .1 .0), now (a .1 .1 .1 .1 .0)))
+    (λ r b. (r, now (b .1 .1 .1 .1 .0), now (b .0))) (ws, start, goal, steps, answer)
+
+pub zp-add-run-gives : (ws : List ℕ) (start goal : ℕ) (steps answer : List ℕ) (o : ℕ × List ℕ × List ℕ)
+    → ZpAddRunGives ws start goal steps answer o → AddsRun ws (o .2) start goal steps answer (o .1) (o .0)
+zp-add-run-gives ws start goal steps answer =
+    call-keeps (λ i o. AddsRun (i .0) (o .2) (i .1) (i .2) (i .3) (i .4) (o .1) (o .0)) (λ k a r b p. p) (ws, start, goal, steps, answer)
+
 -- ---- none asks anything of its caller
 
 pub zp-record-asks-nothing : AsksNothing zp-record.Pre
@@ -152,3 +202,18 @@ zp-list-asks-nothing k a = tt
 
 pub zp-listing-asks-nothing : AsksNothing zp-listing.Pre
 zp-listing-asks-nothing k a = tt
+
+pub zp-write-domain-asks-nothing : AsksNothing zp-write-domain.Pre
+zp-write-domain-asks-nothing k a = tt
+
+pub zp-write-problem-asks-nothing : AsksNothing zp-write-problem.Pre
+zp-write-problem-asks-nothing k a = tt
+
+pub zp-read-domain-asks-nothing : AsksNothing zp-read-domain.Pre
+zp-read-domain-asks-nothing k a = tt
+
+pub zp-read-problem-asks-nothing : AsksNothing zp-read-problem.Pre
+zp-read-problem-asks-nothing k a = tt
+
+pub zp-add-run-asks-nothing : AsksNothing zp-add-run.Pre
+zp-add-run-asks-nothing k a = tt

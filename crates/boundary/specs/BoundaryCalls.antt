@@ -2,9 +2,13 @@
 use mathlib.Core.List.{List}
 use mathlib.Core.Path.{_≡_}
 use Prim.Native.Nat.{ℕ}
+use Rattle.addrun.specs.Adding.{runAdded}
 use Rattle.apply.specs.Applying.{Applies}
 use Rattle.table.specs.declared.TaskReply.{TaskReply}
 use Rattle.listing.specs.Listing.{ListsInto}
+use Rattle.pddl.specs.Readings.{ReadsDomain, ReadsProblem}
+use Rattle.pddl.specs.declared.ProblemReply.{ProblemReply}
+use Rattle.pddlwriter.specs.Writing.{domainWritten, problemWritten}
 use Rattle.runcheck.specs.OpenNeeds.{checked}
 use Rattle.session.specs.Calls.{Opens, Edits, listed}
 use Rattle.session.specs.EditNumbers.{editOf}
@@ -15,7 +19,7 @@ use Rattle.taskformat.specs.Reading.{ReadsFile}
 use Rattle.records.specs.Records.{recordAt}
 use Rattle.taskwriter.specs.Writing.{written}
 use Rattle.taskwords.specs.Words.{taskIn, lentBack}
-use Rattle.taskwords.specs.Answers.{Answers, changedLength, replyLength, checkedLength, recordLength, answerMost, changedWords, replyWords, checkedWords, recordWords, taskAnswer}
+use Rattle.taskwords.specs.Answers.{Answers, changedLength, replyLength, problemLength, checkedLength, recordLength, answerMost, changedWords, replyWords, problemWords, checkedWords, recordWords, taskAnswer}
 
 -- Nothing but the room for the answer is lent to be written.
 abbrev pub Nothing : Type 0
@@ -72,3 +76,32 @@ ListsSession ws table room after = AnswersOutcome room after (λ o. o ≡ listed
 
 unfoldable pub ListsInput : List ℕ → List ℕ → List ℕ → List ℕ → List ℕ → ℕ → Type 0
 ListsInput input room after = AnswersOutcome room after (ListsInto input room)
+
+-- ---- 02, request 4
+
+unfoldable pub WritesDomain : List ℕ → List ℕ → List ℕ → List ℕ → List ℕ → ℕ → Type 0
+WritesDomain ws room after = AnswersOutcome room after (λ o. o ≡ domainWritten (taskIn ws) room)
+
+-- "one problem text for each run": a call names its run
+unfoldable pub WritesProblem : List ℕ → ℕ → List ℕ → List ℕ → List ℕ → List ℕ → ℕ → Type 0
+WritesProblem ws run room after = AnswersOutcome room after (λ o. o ≡ problemWritten (taskIn ws) run room)
+
+-- "Steps and L are passed beside it": L here, the steps where a run is added
+unfoldable pub HandsDomain : List ℕ → ℕ → List ℕ → List ℕ → ℕ → Type 0
+HandsDomain text limit =
+    Answers answerMost Nothing
+    (λ words. (y : TaskReply) × ReadsDomain text limit y × (words ≡ taskAnswer (y .number) (y .place) (y .task)))
+
+unfoldable pub HandsProblem : List ℕ → ℕ → List ℕ → List ℕ → ℕ → Type 0
+HandsProblem text facts =
+    Answers problemLength Nothing
+    (λ words.
+    (y : ProblemReply) × ReadsProblem text facts y × (words ≡ problemWords (y .number) (y .place) (y .start) (y .goal)))
+
+-- The task's words are ws before the call and `left` after it.
+unfoldable pub AddsRun : List ℕ → List ℕ → ℕ → ℕ → List ℕ → List ℕ → List ℕ → ℕ → Type 0
+AddsRun ws left start goal steps =
+    Answers changedLength (left ≡ ws)
+    (λ words.
+    (y : TaskReply) × ((y ≡ runAdded (taskIn ws) start goal steps) × (left ≡ lentBack ws (y .number) (y .task))) ×
+    (words ≡ changedWords (y .number) (y .place)))

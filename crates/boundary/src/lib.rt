@@ -1,6 +1,8 @@
 // The boundary: every public call as an `extern "C"` function on numbers and slices, for callers in C and in Rust
 // (docs/BOUNDARY.md). A task crosses as 636 words, an answer as words in lent room; where that room is too short nothing
 // is called, and the answer is 255. A task that a call changes is lent in and out.
+pub mod texts;
+
 use apply::apply;
 use listing::listing;
 use records::record::record_at;
@@ -29,6 +31,8 @@ const ANSWER_TOO_SHORT: usize = 255;
 const CHANGED_WORDS: usize = 2;
 
 const REPLY_WORDS: usize = 3;
+
+const PROBLEM_WORDS: usize = 4;
 
 const CHECKED_WORDS: usize = 5;
 

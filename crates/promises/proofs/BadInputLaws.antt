@@ -9,11 +9,17 @@ use native.Mathlib.Omega.{arith}
 use lib.Dec.{eqb, ltb}
 use lib.ListN.{length}
 use borrow.Author.Tests.{le-ltb}
+use Rattle.addrun.specs.Adding.{withRun, refusedRun, runAdded}
 use Rattle.apply.proofs.ApplyLaws.{applies-wrong, applies-unique}
 use Rattle.apply.proofs.PermittedLaws.{firstWrong-le, permitted-list}
 use Rattle.apply.specs.Applying.{firstWrong, applyRefusal, Applies}
 use Rattle.change.specs.declared.Edit.{Edit}
 use Rattle.listing.specs.Listing.{ListsInto}
+use Rattle.pddl.specs.Readings.{ReadsDomain, domain, ReadsProblem, no-size, problem}
+use Rattle.pddl.specs.Readings as readings
+use Rattle.pddl.specs.Texts.{domainText}
+use Rattle.pddl.specs.declared.ProblemReply.{ProblemReply}
+use Rattle.pddlwriter.specs.Writing.{domainWritten, problemOf, problemWritten}
 use Rattle.runcheck.specs.OpenNeeds.{statesOf, totalOpen, firstOpen, lowestOpen, openNeeds, refusedCheck, openReport, checked}
 use Rattle.runcheck.specs.declared.Checked.{Checked}
 use Rattle.search.specs.Rows.{verdictIn}
@@ -36,14 +42,14 @@ use Rattle.table.specs.declared.TaskReply.{TaskReply}
 use Rattle.taskformat.proofs.FilesAreTasks.{accepted-exactly, accepted-read}
 use Rattle.taskformat.proofs.Places.{read-marks}
 use Rattle.taskformat.specs.Format.{fileOf}
-use Rattle.taskformat.specs.Reading.{Seen, noTask, faultsAt, faultAt, Marks, Reads, ReadsFile, faulty, good, ended, trailing}
+use Rattle.taskformat.specs.Reading.{acceptedRead, Seen, noTask, faultsAt, faultAt, Marks, Reads, ReadsFile, faulty, good, ended, trailing}
 use Rattle.records.specs.Records.{recordFault, recordAt, wholeRecord, refusedRecord}
 use Rattle.records.specs.declared.record.Record.{Record}
 use Rattle.taskwriter.specs.Writing.{written}
 
--- A number of document 01's table, or of 02's request 1.
+-- A number of document 01's table, or of 02's requests 1 and 4.
 abbrev pub Listed : ℕ → Type 0
-Listed n = n ≤ 16
+Listed n = n ≤ 17
 
 -- One that reading gives: 1 to 8, or 16 (02, request 1); or 0.
 abbrev pub FileNumber : ℕ → Type 0
@@ -205,3 +211,37 @@ list-fair t s room o e =
 
 pub listing-fair : (input room : List ℕ) (o : Outcome) → ListsInto input room o → Fair room o
 listing-fair input room o a = subst (Fair room) (sym (a .outcome)) (given-fair (a .text) room)
+
+-- ---- the PDDL texts (02, request 4)
+
+pub domain-fair : (t : Task) (room : List ℕ) (o : Outcome) → o ≡ domainWritten t room → Fair room o
+unfolding domainWritten
+domain-fair t room o e =
+    subst (Fair room) (sym e)
+    (either (Fair room) (formed t) (given (domainText (t .table)) room) (refused notWellFormed room) (given-fair (domainText (t .table)) room)
+    (refused-fair 12 room (omega arith)))
+
+pub problem-fair : (t : Task) (run : ℕ) (room : List ℕ) (o : Outcome) → o ≡ problemWritten t run room → Fair room o
+unfolding problemWritten
+problem-fair t run room o e =
+    let rest = cond {A = Outcome} (ltb run (t .runs .many)) (given (problemOf t run) room) (refused notThere room) in
+    subst (Fair room) (sym e)
+    (either (Fair room) (formed t) rest (refused notWellFormed room)
+    (either (Fair room) (ltb run (t .runs .many)) (given (problemOf t run) room) (refused notThere room) (given-fair (problemOf t run) room)
+    (refused-fair 14 room (omega arith)))
+    (refused-fair 12 room (omega arith)))
+
+pub domain-number : (s : List ℕ) (limit : ℕ) (r : TaskReply) → ReadsDomain s limit r → Listed (r .number)
+domain-number s limit r (domain t d e p) = omega (arith, ap (λ (q : TaskReply). q .number) p)
+domain-number s limit r (readings.ReadsDomain.outside n never l p) = omega (arith, ap (λ (q : TaskReply). q .number) p)
+
+pub problem-number : (s : List ℕ) (facts : ℕ) (r : ProblemReply) → ReadsProblem s facts r → Listed (r .number)
+problem-number s facts r (no-size h p) = omega (arith, ap (λ (q : ProblemReply). q .number) p)
+problem-number s facts r (problem _ _ a b d e p) = omega (arith, ap (λ (q : ProblemReply). q .number) p)
+problem-number s facts r (readings.ReadsProblem.outside _ _ n never l p) = omega (arith, ap (λ (q : ProblemReply). q .number) p)
+
+pub run-number : (t : Task) (start goal : ℕ) (steps : List ℕ) → Listed (runAdded t start goal steps .number)
+unfolding runAdded
+run-number t start goal steps =
+    either (λ (r : TaskReply). Listed (r .number)) (formed (withRun t start goal steps)) (acceptedRead (withRun t start goal steps)) (refusedRun t)
+    (omega arith) (omega arith)

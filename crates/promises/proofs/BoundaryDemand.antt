@@ -1,6 +1,6 @@
 -- Demand 1 of the boundary's functions, said of the functions themselves (`Zp..Gives`: boundary/proofs/Called). What a call gives, o, is the
 -- number returned (.0), the answer's words (.1) and what else was lent to be written: the room or the table (.2), of zp_apply the task's words
--- (.2), of zp_edit the task's words (.2) and the table (.3). Open Demands first. Assumes nothing.
+-- (.2), of zp_edit the task's words (.2) and the table (.3). Open Demands first; the functions of 02's request 4: TextsBoundary. Assumes nothing.
 use mathlib.Core.Bool.{false}
 use mathlib.Core.List.{List, [], _∷_, _++_}
 use mathlib.Core.Path.{_≡_, sym, ap, _∙_, subst}
@@ -179,30 +179,30 @@ room-of {n} {answer = answer} a number = record {
 module _ {Y Untouched : Type 0} {n : ℕ} {Inner : Y → Type 0} {out : Y → List ℕ} {answer after : List ℕ} {r : ℕ}
     (a : Answers n Untouched (λ words. (y : Y) × Inner y × (words ≡ out y)) answer after r) where
   -- The first of the words is the number of the result.
-  told-room : ((y : Y) → Inner y → Listed (getD (out y) 0 0)) → AnswerRoom n answer r after
+  pub told-room : ((y : Y) → Inner y → Listed (getD (out y) 0 0)) → AnswerRoom n answer r after
   told-room number = room-of a (λ words t. omega (arith, ap (λ w. getD w 0 0) (t .2), number (t .0) (t .1)))
 
   -- Where the only result is z, its words are said.
-  said-of : (z : Y) → ((y : Y) → Inner y → (y ≡ z) × Untouched) → n ≤ length answer
+  pub said-of : (z : Y) → ((y : Y) → Inner y → (y ≡ z) × Untouched) → n ≤ length answer
       → ((r ≡ getD (out z) 0 0) × (after ≡ out z ++ drop n answer)) × Untouched
   said-of z only h =
       let x = a .given h in
       (answers-said a h (out z) (λ words t. t .2 ∙ ap out (only (t .0) (t .1) .0)), only (x .2 .0) (x .2 .1) .1)
 
   -- Where a refused result leaves what was lent, so does the call.
-  kept-of : ((y : Y) → Inner y → (getD (out y) 0 0 ≡ 0 → ⊥) → Untouched) → Refused r → Untouched
+  pub kept-of : ((y : Y) → Inner y → (getD (out y) 0 0 ≡ 0 → ⊥) → Untouched) → Refused r → Untouched
   kept-of keeps nonzero =
       answers-refused a nonzero (λ e. e) (λ words t first. keeps (t .0) (t .1) (λ e. first (ap (λ w. getD w 0 0) (t .2) ∙ e)))
 
 -- One whose reply and room are an outcome, where only the refusal n is given.
-outcome-said : {room left answer after : List ℕ} {r : ℕ} {Replies : Reply → Type 0} → AnswersReply room left Replies answer after r → (n : ℕ)
+pub outcome-said : {room left answer after : List ℕ} {r : ℕ} {Replies : Reply → Type 0} → AnswersReply room left Replies answer after r → (n : ℕ)
     → ((y : Reply) → Replies y → _≡_ {A = Outcome} (record { reply = y; room = left }) (refused n room)) → 3 ≤ length answer
     → Said (n ∷ 0 ∷ 0 ∷ []) answer r after × (left ≡ room)
 outcome-said a n only =
     said-of a (refusal n) (λ y g. (ap (λ (u : Outcome). u .reply) (only y g), ap (λ (u : Outcome). u .room) (only y g)))
 
 -- One that changes the task, where only the refusal n at a place is given: the task's words are left, and what else the result leaves.
-changed-said : (ws : List ℕ) {left answer after : List ℕ} {r : ℕ} {Untouched : Type 0} {Changes : TaskReply → Type 0}
+pub changed-said : (ws : List ℕ) {left answer after : List ℕ} {r : ℕ} {Untouched : Type 0} {Changes : TaskReply → Type 0}
     → Answers changedLength Untouched
     (λ words. (y : TaskReply) × (Changes y × (left ≡ lentBack ws (y .number) (y .task))) × (words ≡ changedWords (y .number) (y .place))) answer after r
     → (n place : ℕ) → 0 < n

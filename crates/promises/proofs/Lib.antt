@@ -7,5 +7,7 @@ pub mod BadInputLaws
 pub mod FileLaws
 pub mod SolvedLaws
 pub mod Demands
+pub mod TextsDemand
 pub mod BoundaryDemand
+pub mod TextsBoundary
 pub mod ReplayLaws

@@ -4,11 +4,17 @@
 use mathlib.Core.List.{List}
 use mathlib.Core.Path.{_≡_, sym, _∙_}
 use Prim.Native.Nat.{ℕ}
+use Rattle.addrun.proofs.Called.{AddRunGives, add-run-gives}
+use Rattle.addrun.specs.Adding.{runAdded}
 use Rattle.apply.proofs.ApplyLaws.{applies-unique}
 use Rattle.apply.proofs.Called.{ApplyGives, apply-gives}
 use Rattle.change.specs.declared.Edit.{Edit}
 use Rattle.listing.proofs.Called.{ListingGives, listing-gives}
 use Rattle.listing.proofs.Determined.{listing-unique}
+use Rattle.pddl.proofs.ReadBack.{reads-domain-once, reads-problem-once}
+use Rattle.pddlreader.proofs.Called.{ReadDomainGives, read-domain-gives, ReadProblemGives, read-problem-gives}
+use Rattle.pddlwriter.proofs.Called.{WriteDomainGives, write-domain-gives, WriteProblemGives, write-problem-gives}
+use Rattle.pddlwriter.specs.Writing.{domainWritten, problemWritten}
 use Rattle.runcheck.proofs.Called.{CheckGives, check-gives}
 use Rattle.runcheck.specs.OpenNeeds.{checked}
 use Rattle.session.proofs.CallLaws.{opens-unique, edits-unique}
@@ -90,3 +96,21 @@ list-unique t s room = one-given (list-gives t s room) (equation (listed t s roo
 -- listing: the reply, and the room afterwards
 pub listing-determined : (input room : List ℕ) → Determined (ListingGives input room)
 listing-determined input room = one-given (listing-gives input room) (λ r q. listing-unique)
+
+-- write_domain, write_problem: the reply, and the room afterwards
+pub write-domain-unique : (t : Task) (room : List ℕ) → Determined (WriteDomainGives t room)
+write-domain-unique t room = one-given (write-domain-gives t room) (equation (domainWritten t room))
+
+pub write-problem-unique : (t : Task) (run : ℕ) (room : List ℕ) → Determined (WriteProblemGives t run room)
+write-problem-unique t run room = one-given (write-problem-gives t run room) (equation (problemWritten t run room))
+
+-- read_domain, read_problem
+pub read-domain-unique : (s : List ℕ) (limit : ℕ) → Determined (ReadDomainGives s limit)
+read-domain-unique s limit = one-given (read-domain-gives s limit) (λ r q. reads-domain-once)
+
+pub read-problem-unique : (s : List ℕ) (facts : ℕ) → Determined (ReadProblemGives s facts)
+read-problem-unique s facts = one-given (read-problem-gives s facts) (λ r q. reads-problem-once)
+
+-- add_run
+pub add-run-unique : (t : Task) (start goal : ℕ) (steps : List ℕ) → Determined (AddRunGives t start goal steps)
+add-run-unique t start goal steps = one-given (add-run-gives t start goal steps) (equation (runAdded t start goal steps))

@@ -6,14 +6,18 @@ use mathlib.Core.Path.{_≡_, refl, sym, ap, _∙_}
 use Prim.Native.Nat.{ℕ}
 use denote.Ref.{RefT, now}
 use Rattle.taskwords.proofs.AnsweringLaws.{answers-one}
-use Rattle.boundary.proofs.Called.{ZpRecordGives, zp-record-gives, ZpReadGives, zp-read-gives, ZpWriteGives, zp-write-gives, ZpCheckGives, zp-check-gives, ZpApplyGives, zp-apply-gives, ZpSolveGives, zp-solve-gives, ZpOpenGives, zp-open-gives, ZpEditGives, zp-edit-gives, ZpListGives, zp-list-gives, ZpListingGives, zp-listing-gives}
-use Rattle.taskwords.specs.Answers.{Answers, changedWords, replyWords, checkedWords, recordWords, taskAnswer}
-use Rattle.boundary.specs.BoundaryCalls.{Nothing, AnswersOutcome, HandsRecord, ReadsTask, WritesTask, ChecksRun, AppliesList, SolvesTask, OpensSession, EditsSession, ListsSession, ListsInput}
+use Rattle.boundary.proofs.Called.{ZpRecordGives, zp-record-gives, ZpReadGives, zp-read-gives, ZpWriteGives, zp-write-gives, ZpCheckGives, zp-check-gives, ZpApplyGives, zp-apply-gives, ZpSolveGives, zp-solve-gives, ZpOpenGives, zp-open-gives, ZpEditGives, zp-edit-gives, ZpListGives, zp-list-gives, ZpListingGives, zp-listing-gives, ZpWriteDomainGives, zp-write-domain-gives, ZpWriteProblemGives, zp-write-problem-gives, ZpReadDomainGives, zp-read-domain-gives, ZpReadProblemGives, zp-read-problem-gives, ZpAddRunGives, zp-add-run-gives}
+use Rattle.taskwords.specs.Answers.{Answers, changedWords, replyWords, problemWords, checkedWords, recordWords, taskAnswer}
+use Rattle.boundary.specs.BoundaryCalls.{Nothing, AnswersOutcome, HandsRecord, ReadsTask, WritesTask, ChecksRun, AppliesList, SolvesTask, OpensSession, EditsSession, ListsSession, ListsInput, WritesDomain, WritesProblem, HandsDomain, HandsProblem, AddsRun}
 use Rattle.taskwords.specs.Words.{taskIn, lentBack}
+use Rattle.addrun.specs.Adding.{runAdded}
 use Rattle.apply.proofs.ApplyLaws.{applies-unique}
 use Rattle.apply.specs.Applying.{Applies}
 use Rattle.table.specs.declared.TaskReply.{TaskReply}
 use Rattle.listing.proofs.Determined.{listing-unique}
+use Rattle.pddl.proofs.ReadBack.{reads-domain-once, reads-problem-once}
+use Rattle.pddl.specs.declared.ProblemReply.{ProblemReply}
+use Rattle.pddlwriter.specs.Writing.{domainWritten, problemWritten}
 use Rattle.recordreader.proofs.Called.{NewGives, NextGives, ReaderBodyGives, MovedOnGives, PlaceAfterGives, place-after-gives}
 use Rattle.recordreader.proofs.PlaceLaws.{file-and-place-tell}
 use Rattle.recordreader.specs.Places.{placeAfter}
@@ -155,3 +159,39 @@ zp-edit-unique ws kind whose fact present table answer r q a b =
     λ i. (same i .0, (left-as-told ws (ap (λ (o : TaskReply × List ℕ). o .0) same) (a .1) (b .1) i, same i .1)))
     (r .0, r .1, (r .2, r .3)) (q .0, q .1, (q .2, q .3)) (told r a) (told q b) in
     λ i. (same i .0, same i .1, same i .2 .0, same i .2 .1)
+
+-- ---- 02, request 4
+
+-- zp_write_domain, zp_write_problem: the reply's words, and the room afterwards
+pub zp-write-domain-unique : (ws room answer : List ℕ) → Determined (ZpWriteDomainGives ws room answer)
+unfolding WritesDomain
+zp-write-domain-unique ws room answer = one-given (zp-write-domain-gives ws room answer) (filling (equation (domainWritten (taskIn ws) room)))
+
+pub zp-write-problem-unique : (ws : List ℕ) (run : ℕ) (room answer : List ℕ) → Determined (ZpWriteProblemGives ws run room answer)
+unfolding WritesProblem
+zp-write-problem-unique ws run room answer =
+    one-given (zp-write-problem-gives ws run room answer) (filling (equation (problemWritten (taskIn ws) run room)))
+
+-- zp_read_domain, zp_read_problem: the words of the one table, and of the one start and goal, that are read
+pub zp-read-domain-unique : (text : List ℕ) (limit : ℕ) (answer : List ℕ) → Determined (ZpReadDomainGives text limit answer)
+unfolding HandsDomain
+zp-read-domain-unique text limit answer =
+    let out : TaskReply → List ℕ = λ y. taskAnswer (y .number) (y .place) (y .task) in
+    one-given (zp-read-domain-gives text limit answer) (alone (λ u v x y. x .2 ∙ ap out (reads-domain-once (x .1) (y .1)) ∙ sym (y .2)))
+
+pub zp-read-problem-unique : (text : List ℕ) (facts : ℕ) (answer : List ℕ) → Determined (ZpReadProblemGives text facts answer)
+unfolding HandsProblem
+zp-read-problem-unique text facts answer =
+    let out : ProblemReply → List ℕ = λ y. problemWords (y .number) (y .place) (y .start) (y .goal) in
+    one-given (zp-read-problem-gives text facts answer) (alone (λ u v x y. x .2 ∙ ap out (reads-problem-once (x .1) (y .1)) ∙ sym (y .2)))
+
+-- zp_add_run: number and place, and the task's words afterwards
+pub zp-add-run-unique : (ws : List ℕ) (start goal : ℕ) (steps answer : List ℕ) → Determined (ZpAddRunGives ws start goal steps answer)
+unfolding AddsRun
+zp-add-run-unique ws start goal steps answer =
+    one-given (zp-add-run-gives ws start goal steps answer)
+    (lending (λ y left. (y ≡ runAdded (taskIn ws) start goal steps) × (left ≡ lentBack ws (y .number) (y .task)))
+    (λ (y : TaskReply). changedWords (y .number) (y .place)) (equation ws)
+    (λ r q a b.
+    let same = a .0 ∙ sym (b .0) in
+    λ i. (same i, left-as-told ws same (a .1) (b .1) i)))

@@ -23,6 +23,9 @@ changedLength = 2
 abbrev pub replyLength : ℕ
 replyLength = 3
 
+abbrev pub problemLength : ℕ
+problemLength = 4
+
 abbrev pub checkedLength : ℕ
 checkedLength = 5
 
@@ -37,6 +40,9 @@ changedWords number place = number ∷ place ∷ []
 
 abbrev pub replyWords : Reply → List ℕ
 replyWords y = y .number ∷ y .place ∷ y .length ∷ []
+
+abbrev pub problemWords : ℕ → ℕ → ℕ → ℕ → List ℕ
+problemWords number place start goal = number ∷ place ∷ start ∷ goal ∷ []
 
 abbrev pub checkedWords : Checked → List ℕ
 checkedWords y = y .number ∷ y .place ∷ y .total ∷ y .step ∷ y .fact ∷ []

@@ -18,7 +18,7 @@ ghost use Rattle.table.specs.Refusals.{accepted};
 ghost use Rattle.table.specs.Sizes.{maxRuns, allSteps};
 ghost use Rattle.room.specs.Placing.{lastPlace, Placed};
 ghost use Rattle.taskwords.specs.Words.{tableOut, runsOut, tableWords, runsWords, taskWords, lentBack};
-ghost use Rattle.taskwords.specs.Answers.{Fitting, answerMost, changedLength, replyLength, checkedLength, recordLength, Given, changedWords, checkedWords, recordWords, replyWords, taskAnswer};
+ghost use Rattle.taskwords.specs.Answers.{Fitting, answerMost, changedLength, replyLength, problemLength, checkedLength, recordLength, Given, changedWords, checkedWords, problemWords, recordWords, replyWords, taskAnswer};
 
 fn put(answer: &mut [u64], at: usize, word: u64) -> usize
     requires { ⌜ at < lastPlace ⌝ }
@@ -171,6 +171,14 @@ pub fn give_reply(reply: Reply, answer: &mut [u64]) -> usize
         reply.place as u64,
         reply.length as u64,
     );
+    number
+}
+
+pub fn give_problem(number: usize, place: usize, start: u64, goal: u64, answer: &mut [u64]) -> usize
+    ensures { λ r. ⌜ Given problemLength (problemWords number place start goal) (now (answer .entry)) (now (answer .exit)) r ⌝ }
+{
+    let next = put_two(answer, 0, number as u64, place as u64);
+    put_two(answer, next, start, goal);
     number
 }
 

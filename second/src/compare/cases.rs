@@ -10,7 +10,7 @@ use crate::repair::{Repair, KINDS};
 use crate::session::{row_of, MORE_THAN_SIX, NO_LIST, ROW, TABLE, UNUSED};
 use crate::task::{Task, MOST_FACTS, MOST_RUNS};
 
-fn request(call: Call, words: &[u64], bytes: Vec<u8>) -> Request {
+pub fn request(call: Call, words: &[u64], bytes: Vec<u8>) -> Request {
     Request { call, words: words.to_vec(), bytes }
 }
 
@@ -20,7 +20,7 @@ fn answered(response: &Response) -> bool {
 }
 
 /// Lengths of room for a result of this length: exact, one short, longer, none.
-fn room_lengths(exact: usize, random: &mut Random) -> Vec<usize> {
+pub fn room_lengths(exact: usize, random: &mut Random) -> Vec<usize> {
     let mut lengths = vec![exact, exact + random.between(1, 9)];
     if exact > 0 {
         lengths.push(exact - 1);

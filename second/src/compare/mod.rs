@@ -6,6 +6,8 @@ mod driver;
 mod files;
 mod report;
 pub mod tasks;
+mod text_cases;
+pub mod texts;
 
 use std::time::{SystemTime, UNIX_EPOCH};
 
@@ -83,6 +85,7 @@ impl Comparison {
             Case::Task(index) => (1, index),
             Case::File(index) => (2, index),
             Case::Session(index) => (3, index),
+            Case::Texts(index) => (4, index),
         };
         let mut mixed = Random::new(self.seed ^ (kind << 60));
         Random::new(mixed.next().wrapping_add(index as u64).wrapping_mul(0x9E37_79B9_7F4A_7C15))
@@ -103,6 +106,10 @@ impl Comparison {
             cases::session(self, random, wanted.edits)?;
             index += 1;
         }
+        for index in 0..wanted.texts {
+            let random = self.begin(Case::Texts(index));
+            text_cases::texts(self, random)?;
+        }
         self.send_batch()
     }
 }
@@ -112,14 +119,17 @@ struct Wanted {
     tasks: usize,
     files: usize,
     edits: usize,
+    texts: usize,
 }
 
-/// `second compare --driver CMD.. -- [--seed N] [--tasks T] [--files F] [--edits E]`. True if nothing differs.
+/// `second compare --driver CMD.. -- [--seed N] [--tasks N] [--files N] [--edits N] [--texts N]`. True if
+/// nothing differs.
 pub fn command(options: &Options) -> Result<bool, String> {
     let seed = options.number("seed")?.unwrap_or_else(seed_of_the_clock);
     println!("seed {seed}");
     let count = |name| Ok::<usize, String>(options.number(name)?.unwrap_or(1000) as usize);
-    let wanted = Wanted { tasks: count("tasks")?, files: count("files")?, edits: count("edits")? };
+    let [tasks, files, edits, texts] = ["tasks", "files", "edits", "texts"].map(count);
+    let wanted = Wanted { tasks: tasks?, files: files?, edits: edits?, texts: texts? };
     let words = options.words("driver").ok_or("compare needs --driver CMD.. --")?;
     let driver = Driver::start(words).map_err(|error| format!("cannot start the driver: {error}"))?;
     let mut comparison = Comparison {

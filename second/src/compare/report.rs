@@ -4,6 +4,7 @@ use std::cmp::Ordering;
 use std::fmt;
 
 use crate::file::{file_of, record_around};
+use crate::pddl::{read_domain, read_problem};
 use crate::protocol::{Call, Request, Response, CALLS};
 use crate::reference::Means;
 use crate::refusal::Ground;
@@ -17,6 +18,8 @@ pub enum Case {
     Task(usize),
     File(usize),
     Session(usize),
+    /// A task as PDDL texts.
+    Texts(usize),
 }
 
 /// A driver's response that is not what documents 01 and 02 demand.
@@ -35,10 +38,11 @@ impl fmt::Display for Difference {
         writeln!(out, "different: seed {}, case {:?}, call {:?}", self.seed, self.case, self.request.call)?;
         writeln!(out, "file: {}", hex(&self.file()))?;
         writeln!(out, "request words: {:?}", self.other_words())?;
-        writeln!(out, "request bytes: {}", hex(&self.request.bytes))?;
-        writeln!(out, "expected words: {:?}\nexpected bytes: {}", self.expected.words, hex(&self.expected.bytes))?;
+        writeln!(out, "request bytes: {}", self.shown(&self.request.bytes))?;
+        writeln!(out, "expected words: {:?}", self.expected.words)?;
+        writeln!(out, "expected bytes: {}", self.shown(&self.expected.bytes))?;
         match &self.got {
-            Ok(got) => write!(out, "got words: {:?}\ngot bytes: {}", got.words, hex(&got.bytes)),
+            Ok(got) => write!(out, "got words: {:?}\ngot bytes: {}", got.words, self.shown(&got.bytes)),
             Err(why) => write!(out, "got nothing: {why}"),
         }
     }
@@ -49,12 +53,21 @@ impl Difference {
         self.request.task_words().map(Task::from_words)
     }
 
-    /// The file that the request speaks of: its task's, or the bytes it lends. A malformed task has none.
+    /// The file that the request speaks of: its task's, or the bytes it lends. A malformed task and a text have none.
     fn file(&self) -> Vec<u8> {
         match self.task() {
             Some(task) if task.well_formed() => file_of(&task),
-            Some(_) => vec![],
-            None => self.request.bytes.clone(),
+            None if !self.request.call.lends_text() => self.request.bytes.clone(),
+            _ => vec![],
+        }
+    }
+
+    /// The bytes of a text as a reader has them, others as numbers.
+    fn shown(&self, bytes: &[u8]) -> String {
+        if self.request.call.lends_text() {
+            bytes.escape_ascii().to_string()
+        } else {
+            hex(bytes)
         }
     }
 
@@ -71,7 +84,7 @@ fn hex(bytes: &[u8]) -> String {
     bytes.iter().map(|byte| format!("{byte:02x}")).collect::<Vec<_>>().join(" ")
 }
 
-const NUMBERS: usize = 17;
+const NUMBERS: usize = 18;
 const FIRST_NUMBERS: usize = 9;
 
 /// The refusals whose place may be within the record (02, request 2).
@@ -83,10 +96,14 @@ pub struct Counts {
     pub tasks: usize,
     pub files: usize,
     pub edits: usize,
+    /// Tasks that were written and read as texts.
+    pub texts: usize,
     /// Responses compared, each in every word and byte.
     pub answers: usize,
     /// Fresh solves by the definition that equalled a session's listing.
     pub agreements: usize,
+    /// Tasks put together again from their texts.
+    pub rebuilt: usize,
     /// Solves and listings whose solve was compared with the join of the rows.
     joined: usize,
     /// Requests not sent, because their answer was too dear to enumerate, per call.
@@ -98,6 +115,8 @@ pub struct Counts {
     /// Runs checked, by their total beside the one that the old rule would have given: equal, greater, smaller (02,
     /// request 3).
     totals: [usize; 3],
+    /// Texts refused with 17, by the place: their end, behind a good text, behind a digit, elsewhere (02, request 4).
+    outside_layout: [usize; 4],
     /// First numbers of the rows of opened tables.
     rows: [usize; FIRST_NUMBERS],
 }
@@ -128,6 +147,9 @@ impl Counts {
         self.joined += (means == Means::Join) as usize;
         let number = number_of(expected);
         self.numbers[index(request.call)][number] += 1;
+        if number == Ground::OutsideLayout as usize {
+            self.take_layout(request, expected.words[1] as usize);
+        }
         if request.call == Call::Read {
             self.take_place(&request.bytes, number, expected.words[1] as usize);
         }
@@ -146,6 +168,25 @@ impl Counts {
             let [_, record] = record_around(file, place).expect("5 and 6 are in a record after the first");
             self.within[which][place - record.place()] += 1;
         }
+    }
+
+    /// Counts a text outside the layout by where it leaves it.
+    fn take_layout(&mut self, request: &Request, place: usize) {
+        let text = &request.bytes;
+        let good = |beginning: &[u8]| match request.call {
+            Call::ReadProblem => read_problem(beginning, request.words[0]).is_ok(),
+            _ => read_domain(beginning, 0).is_ok(),
+        };
+        let which = if place == text.len() {
+            0
+        } else if text[..place].ends_with(b"\n)\n") && good(&text[..place]) {
+            1
+        } else if place > 0 && text[place - 1].is_ascii_digit() {
+            2
+        } else {
+            3
+        };
+        self.outside_layout[which] += 1;
     }
 
     /// Counts a checked run by its total beside the old rule's.
@@ -178,17 +219,15 @@ impl fmt::Display for Counts {
             writeln!(out, "reads refused {number}, at the kind byte, the first number, the second: {counts:?}")?;
         }
         writeln!(out, "runs checked, total equal to the old rule's, greater, smaller: {:?}", self.totals)?;
+        let places = self.outside_layout;
+        writeln!(out, "texts refused 17, at their end, behind a good text, behind a digit, elsewhere: {places:?}")?;
+        writeln!(out, "tasks put together again from their texts: {}", self.rebuilt)?;
         writeln!(out, "rows opened, by first number 0 to 8: {:?}", self.rows)?;
         writeln!(out, "solves compared with joined rows only: {}", self.joined)?;
         writeln!(out, "fresh solves that equalled a session's list: {}", self.agreements)?;
-        write!(
-            out,
-            "compared {} tasks, {} files, {} edits: {} answers, none different, {} skipped as too dear",
-            self.tasks,
-            self.files,
-            self.edits,
-            self.answers,
-            self.skipped.iter().sum::<usize>()
-        )
+        let Counts { tasks, files, edits, texts, answers, .. } = self;
+        write!(out, "compared {tasks} tasks, {files} files, {edits} edits, {texts} tasks as texts: ")?;
+        let skipped: usize = self.skipped.iter().sum();
+        write!(out, "{answers} answers, none different, {skipped} skipped as too dear")
     }
 }

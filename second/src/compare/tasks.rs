@@ -19,7 +19,7 @@ pub fn random_task(random: &mut Random) -> Task {
 /// How dense a set is, in sixteenths.
 const DENSITIES: [usize; 6] = [1, 2, 4, 8, 14, 0];
 
-fn some_facts(random: &mut Random, facts: usize, density: usize) -> Facts {
+pub fn some_facts(random: &mut Random, facts: usize, density: usize) -> Facts {
     (0..facts).fold(0, |set, fact| with(set, fact, random.chance(density)))
 }
 
@@ -294,7 +294,7 @@ fn huge(random: &mut Random) -> u64 {
 }
 
 /// A fact at or above F, as a set; no fact where F is 64.
-fn stray(task: &Task, random: &mut Random) -> Facts {
+pub fn stray(task: &Task, random: &mut Random) -> Facts {
     1u64.checked_shl(random.between(task.facts, MOST_FACTS) as u32).unwrap_or(0)
 }
 

@@ -1,8 +1,9 @@
 //! Deliberate faults for the self-driver, among them 01's "errors that look right", those of several runs, of the places
-//! of 5 and 6 and of a step that can't run (02, requests 1 to 3): the comparison must find each.
+//! of 5 and 6, of a step that can't run and of PDDL texts (02, requests 1 to 4): the comparison must find each.
 
 mod checks;
 mod files;
+mod texts;
 
 use crate::answer::Budget;
 use crate::drive::Broken;
@@ -16,8 +17,8 @@ use crate::task::{Run, Task, MOST_RUNS, WORDS};
 /// A fault makes a wrong response of a request and the right response.
 pub type Fault = fn(&mut Broken, &Request, Response) -> Response;
 
-/// The faults by name.
-pub const FAULTS: [(&str, Fault); 52] = [
+/// The faults by name. Those of PDDL texts are called pddl-.., and need no other cases to be found.
+pub const FAULTS: [(&str, Fault); 78] = [
     ("limit-below", limit_below),
     ("equal-neighbours", files::equal_neighbours),
     ("range-after-order", files::range_after_order),
@@ -70,6 +71,32 @@ pub const FAULTS: [(&str, Fault); 52] = [
     ("goals-by-the-old-rule", checks::goals_by_the_old_rule),
     ("step-after-is-skipped", checks::step_after_is_skipped),
     ("listing-by-the-old-rule", listing_by_the_old_rule),
+    ("pddl-delete-of-an-add", texts::delete_of_an_add),
+    ("pddl-deletes-before-adds", texts::deletes_before_adds),
+    ("pddl-descending", texts::descending),
+    ("pddl-run-before-form", texts::run_before_form),
+    ("pddl-first-problem", texts::first_problem),
+    ("pddl-short-room-filled", texts::short_room_filled),
+    ("pddl-rest-of-room-cleared", texts::rest_of_room_cleared),
+    ("pddl-at-the-line", texts::at_the_line),
+    ("pddl-tail-at-the-length", texts::tail_at_the_length),
+    ("pddl-a-digit-too-far", texts::a_digit_too_far),
+    ("pddl-at-the-number", texts::at_the_number),
+    ("pddl-a-65th-predicate", texts::a_65th_predicate),
+    ("pddl-a-33rd-action", texts::a_33rd_action),
+    ("pddl-any-order", texts::any_order),
+    ("pddl-white-space-after", texts::white_space_after),
+    ("pddl-leading-zeros", texts::leading_zeros),
+    ("pddl-any-number-of-facts", texts::any_number_of_facts),
+    ("pddl-facts-after-the-text", texts::facts_after_the_text),
+    ("pddl-facts-above", texts::facts_above),
+    ("pddl-refused-keeps-the-limit", texts::refused_keeps_the_limit),
+    ("pddl-limit-at-most-six", texts::limit_at_most_six),
+    ("pddl-new-run-first", texts::new_run_first),
+    ("pddl-refused-run-counted", texts::refused_run_counted),
+    ("pddl-ninth-for-the-eighth", texts::ninth_for_the_eighth),
+    ("pddl-steps-cut", texts::steps_cut),
+    ("pddl-facts-outside-dropped", texts::facts_outside_dropped),
 ];
 
 fn task_of(request: &Request) -> Option<Task> {

@@ -1,0 +1,2 @@
+-- What putting one run more to a task means.
+pub mod Adding

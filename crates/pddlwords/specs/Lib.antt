@@ -1,0 +1,2 @@
+-- What the contracts of `pddlwords` cite.
+pub mod Spelling

@@ -1,0 +1,4 @@
+-- The laws of the writers.
+pub mod PartLaws
+pub mod WritingLaws
+pub mod Called

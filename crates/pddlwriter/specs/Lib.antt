@@ -1,0 +1,3 @@
+-- What the contracts of `pddlwriter` cite.
+pub mod Writing
+pub mod Pieces

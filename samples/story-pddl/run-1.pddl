@@ -1,0 +1,10 @@
+(define (problem run)
+  (:domain stage)
+  (:init
+    (f0)
+  )
+  (:goal (and
+    (f0)
+    (f7)
+  ))
+)
