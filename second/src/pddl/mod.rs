@@ -25,12 +25,13 @@ pub fn write_problem(task: &Task, run: u64, room: &mut [u8]) -> Result<usize, Re
 }
 
 /// The task with one run more: "Steps and L are passed beside" the texts, and so a task that was read from a domain has
-/// no run yet. 12 if what comes of it is not well formed.
+/// no run yet. 12 if what comes of it is not well formed: numbers that stood in the run's later step places stay there, and
+/// then it is not.
 pub fn add_run(task: &Task, start: Facts, goal: Facts, steps: &[u8]) -> Result<Task, Refusal> {
     if task.many >= MOST_RUNS || steps.len() > MOST_STEPS {
         return Err(plain(Ground::NotWellFormed));
     }
-    let mut run = Run { start, goal, ..Run::empty() };
+    let mut run = Run { start, goal, count: 0, ..task.runs[task.many] };
     steps.iter().for_each(|&step| run.push_step(step as usize));
     let mut more = *task;
     more.open_run();
