@@ -1,4 +1,5 @@
 -- The laws of copies, and of the rows of a session table.
 pub mod CopyLaws
 pub mod TableLaws
-mod WrongLaws
+pub mod LeftLaws
+pub mod WrongLaws

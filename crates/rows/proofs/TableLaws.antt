@@ -6,10 +6,13 @@ use mathlib.Core.Path.{_≡_, refl, sym, ap, _∙_, subst}
 use Prim.Native.Nat.{ℕ, _+_, _-_, _*_, _/_, _%_, _<_, _≤_}
 use native.Mathlib.Omega.{arith}
 use lib.Dec.{eqb}
-use lib.ListN.{length, getD, drop, replicate, length-append, length-drop, length-replicate}
+use lib.ListN.{length, getD, drop, replicate, length-drop}
 use lib.Seq.{getD-take, getD-drop, ext-getD, length-take-le, take-append-seam}
 use borrow.Author.Tests.{ne-eqb, eqb-true, eqb-false}
-use Rattle.search.specs.Rows.{rowOver, rowHopeless, rowOf, verdictIn, RightRow}
+use Rattle.search.specs.Columns.{Column, coursesIn, KeepsIn}
+use Rattle.search.specs.Rows.{rowOver, rowHopeless, rowOf, verdictIn, RowFor, RightRow}
+use Rattle.search.specs.Views.{Shows}
+use Rattle.search.proofs.RowLaws.{row-shown}
 use Rattle.table.specs.Answer.{Verdict, found, over, hopeless, Within}
 use Rattle.table.specs.Join.{joinVerdicts}
 use Rattle.table.specs.Sizes.{maxFacts, maxRow, rowPlaces, allRows, sessionPlaces, unused}
@@ -20,7 +23,7 @@ use Rattle.table.proofs.FlagLaws.{by-order}
 use Rattle.table.proofs.JoinLaws.{join-for}
 use Rattle.table.proofs.Strides.{sessionPlaces-rows}
 use Rattle.rows.specs.Copies.{pasted}
-use Rattle.rows.specs.Tables.{rowAt, verdictAt, RightRows, Stored, RowPut, RowsPut, Filled, Rewritten, Readable}
+use Rattle.rows.specs.Tables.{rowAt, verdictAt, RightRows, Stored, RowPut, RowsPut, Emptied, Filled, Rewritten, Readable}
 use Rattle.rows.proofs.CopyLaws.{pasted-length, pasted-before, pasted-after, pasted-at}
 
 -- ---- where the numbers of a row stand
@@ -100,14 +103,6 @@ first-low G (found l) w = omega (arith, w .1)
 first-low G over w = omega arith
 first-low G hopeless w = omega arith
 
--- A row has seven places.
-row-whole : (G : List ℕ → Type 0) (v : Verdict) → Within G maxRow v → length (rowOf v) ≡ rowPlaces
-unfolding rowOf
-row-whole G (found l) w =
-    omega (arith, w .1, length-append l (replicate (maxRow - length l) unused), length-replicate (maxRow - length l) unused)
-row-whole G over w = refl
-row-whole G hopeless w = refl
-
 module _ (t : Task) (f : ℕ) where
   pub right-verdict : (row : List ℕ) → RightRow t f row → Within (KeepsFor t f) maxRow (verdictIn row)
   right-verdict row r =
@@ -123,21 +118,26 @@ module _ (t : Task) (f : ℕ) where
   right-unique row other r o =
       r .shown ∙ ap rowOf (within-unique (KeepsFor t f) maxRow (r .verdict) (o .verdict) (r .within) (o .within)) ∙ sym (o .shown)
 
--- ---- a right row written
+-- ---- a row put into its place
 
-pub right-length : (t : Task) (f : ℕ) (row : List ℕ) → RightRow t f row → length row ≡ rowPlaces
-right-length t f row r = ap length (r .shown) ∙ row-whole (KeepsFor t f) (r .verdict) (r .within)
-
-pub row-written : (R : List ℕ → Type 0) (f : ℕ) (s row after : List ℕ) → f < maxFacts → allRows ≤ length s → length row ≡ rowPlaces → R row
-    → after ≡ pasted s (rowPlaces * f) row rowPlaces → RowPut R f s after
-row-written R f s row after h e whole r w =
+pub row-written : (f : ℕ) (s row after : List ℕ) → f < maxFacts → allRows ≤ length s → length row ≡ rowPlaces
+    → after ≡ pasted s (rowPlaces * f) row rowPlaces → RowPut (λ r. r ≡ row) f s after
+row-written f s row after h e whole w =
     let fits : rowPlaces * f + rowPlaces ≤ length s = omega arith in
     record {
       places = ap length w ∙ written-length s f row fits whole;
-      row = subst R (sym (ap (λ (u : List ℕ). rowAt u f) w ∙ written-here s f row fits whole)) r;
+      row = ap (λ (u : List ℕ). rowAt u f) w ∙ written-here s f row fits whole;
       others = λ g l ne. ap (λ (u : List ℕ). rowAt u g) w ∙ written-others s f row fits whole g ne (omega arith);
       rest = λ i l. ap (λ (u : List ℕ). getD u i 0) w ∙ pasted-after s (rowPlaces * f) row rowPlaces fits (omega arith) i (omega arith);
     }
+
+-- The row of a column that shows the task's fact is the right one for it.
+pub row-rewritten : (t : Task) (f : ℕ) (col : Column) (row s after : List ℕ) → (col .fact ≡ f) × Shows t col → f < t .table .facts
+    → RowFor (KeepsIn col (coursesIn col (t .runs .counts) (t .runs .steps))) row → RowPut (λ r. r ≡ row) f s after → Rewritten t f s after
+row-rewritten t f col row s after shown inside searched put =
+    let right : RightRow t f row =
+    subst (λ (g : ℕ). RightRow t g row) (shown .0) (row-shown t col (shown .1) (omega (arith, shown .0)) row searched) in
+    record { places = put .places; row = subst (RightRow t f) (sym (put .row)) right; others = put .others; rest = put .rest }
 
 -- ---- the table filled row by row
 
@@ -160,15 +160,13 @@ module _ (R : ℕ → List ℕ → Type 0) (s : List ℕ) where
           let ne = eqb-false g f apart in
           subst (R g) (sym (w .others g h ne)) (b .rows g h (more g e ne))
 
--- Rows put into a table that was written before.
-pub rows-again : (D : ℕ → Type 0) (R : ℕ → List ℕ → Type 0) (s u : List ℕ) → RowsPut D R s u → RowsPut D R u u
-rows-again D R s u b = record { places = refl; rows = b .rows; rest = λ i h. refl }
+pub rows-filled : (t : Task) (E : ℕ → Type 0) (s after : List ℕ) → RowsPut E (RightRow t) s after → ((f : ℕ) → E f) → Filled t s after
+rows-filled t E s after q all = record { places = q .places; rows = λ f h d. q .rows f h (all f); rest = q .rest }
 
-pub rows-filled : (t : Task) (D : ℕ → Type 0) (R : ℕ → List ℕ → Type 0) (E : ℕ → Type 0) (s u after : List ℕ) → RowsPut D R s u
-    → RowsPut E (RightRow t) u after → ((f : ℕ) → E f) → Filled t s after
-rows-filled t D R E s u after p q all = record {
+pub emptied-filled : (t : Task) (s u after : List ℕ) → Emptied s u → Filled t u after → Filled t s after
+emptied-filled t s u after p q = record {
   places = q .places ∙ p .places;
-  rows = λ f h d. q .rows f h (all f);
+  rows = q .rows;
   rest = λ i h. q .rest i h ∙ p .rest i h;
 }
 

@@ -1,30 +1,29 @@
 -- Laws of the passes that say which facts are wrong: before step i the state's mask is the run's state there, and a fact that was absent where a
 -- step before i needs it is noted; and so on over the runs. Assumes nothing.
-use mathlib.Core.Bool.{Bool, true, false, not, _&&_, _||_, and-true, true≢false}
+use mathlib.Core.Bool.{Bool, true, false, not, _&&_, _||_}
 use mathlib.Core.List.{List, []}
 use mathlib.Core.Path.{_≡_, refl, sym, ap, _∙_, subst}
-use Prim.Native.Nat.{ℕ, _+_, _^_, _<_, _≤_}
-use native.Mathlib.Nat.{pos-of-ne-zero}
+use Prim.Native.Nat.{ℕ, _+_, _<_, _≤_}
 use native.Mathlib.Omega.{arith}
-use lib.Bits.{bitAnd}
 use lib.ListN.{getD}
-use borrow.Author.Tests.{not-false, eq-eqb, ne-eqb}
-use Rattle.facts.specs.Sets.{width, has, only, joined, shared, removed, lowest}
-use Rattle.facts.proofs.Counting.{lowest-has}
-use Rattle.facts.proofs.Laws.{has-empty, has-joined, has-shared, has-removed, has-only, has-without, within-below, lt-within}
+use borrow.Author.Tests.{not-false}
+use Rattle.facts.specs.Sets.{has, only, joined, removed, lowest}
+use Rattle.facts.proofs.Laws.{has-empty, has-joined, has-removed}
 use Rattle.search.specs.Rows.{rowOf, RightRow}
 use Rattle.table.specs.Answer.{found}
 use Rattle.table.specs.Counting.{everyBelow}
 use Rattle.table.specs.Deciding.{isRight, isAllRight}
 use Rattle.table.specs.Strips.{stateAt}
-use Rattle.table.specs.Tasks.{cellsOf, startOf, goalOf, countOf, stepOf, courseOf, coursesOf}
+use Rattle.table.specs.Tasks.{cellsOf, startOf, goalOf, countOf, stepOf, courseOf, coursesOf, WellFormed}
 use Rattle.table.specs.declared.Task.{Task}
-use Rattle.table.proofs.CountingLaws.{everyBelow-none, everyBelow-next}
+use Rattle.table.proofs.CountingLaws.{everyBelow-none, everyBelow-more, everyBelow-next}
 use Rattle.table.proofs.DecidingLaws.{is-all-right}
 use Rattle.table.proofs.JoinLaws.{keeps-right}
 use Rattle.table.proofs.RunLaws.{stateAt-first, stateAt-next}
-use Rattle.rows.specs.Tables.{emptyRow, RowPut, RowsPut, Emptied}
-use Rattle.rows.specs.Wrong.{WrongIn, WrongFacts, Taken}
+use Rattle.rows.specs.Tables.{emptyRow, RowsPut, EmptyRows, Rewritten}
+use Rattle.rows.specs.Wrong.{WrongIn, WrongFacts}
+use Rattle.rows.proofs.LeftLaws.{wrong-low, without-in, without-out}
+use Rattle.rows.proofs.TableLaws.{rows-more}
 
 -- absent where it is needed
 missed : (before needed present : Bool) → (not before || (needed && not present)) ≡ not (before && (not needed || present))
@@ -96,8 +95,8 @@ module _ (t : Task) where
   abbrev pub WrongBelow : ℕ → ℕ → Type 0
   WrongBelow n w = (f : ℕ) → has w f ≡ not (everyBelow (λ i. isRight (cellsOf (t .table)) (courseOf (t .runs) i) f) n)
 
-  pub wrong-none : WrongBelow 0 0
-  wrong-none f = has-empty f ∙ ap not (everyBelow-none (λ i. isRight (cellsOf (t .table)) (courseOf (t .runs) i) f))
+  pub wrong-first : (here : ℕ) → WrongIn t 0 here → WrongBelow 1 here
+  wrong-first here h f = h f ∙ ap not (everyBelow-more (λ i. isRight (cellsOf (t .table)) (courseOf (t .runs) i) f) 0 (everyBelow-none (λ i. isRight (cellsOf (t .table)) (courseOf (t .runs) i) f)) refl)
 
   pub wrong-more : (wrong here next n : ℕ) → next ≡ joined wrong here → WrongIn t n here → WrongBelow n wrong → WrongBelow (n + 1) next
   wrong-more wrong here next n e h w f =
@@ -123,43 +122,26 @@ module _ (t : Task) where
 
   -- ---- the rows of the wrong facts, one after another
 
+  -- The facts in `left` are still to be searched; the rows of all others are right.
+  pub record Searched (left : ℕ) (s u : List ℕ) : Type 0 where
+    pub low : (f : ℕ) → has left f ≡ true → f < t .table .facts
+    pub rows : RowsPut (λ f. has left f ≡ false) (RightRow t) s u
+
   -- Every row empty: those of the right facts are right.
-  pub right-emptied : (s u : List ℕ) (wrong : ℕ) → WrongFacts t wrong → Emptied s u → RowsPut (λ f. has wrong f ≡ false) (RightRow t) s u
-  right-emptied s u wrong known e = record {
-    places = e .places;
-    rows = λ f h right. subst (RightRow t f) (sym (e .rows f h tt)) (right-empty wrong known f right);
-    rest = e .rest;
+  pub searched-none : WellFormed t → (wrong : ℕ) (s : List ℕ) → WrongFacts t wrong → EmptyRows s → Searched wrong s s
+  searched-none well wrong s known e = record {
+    low = wrong-low t well wrong known;
+    rows = record {
+      places = refl;
+      rows = λ f h right. subst (RightRow t f) (sym (e f h)) (right-empty wrong known f right);
+      rest = λ i h. refl;
+    };
   }
 
--- The lowest fact of a mask, and the mask without it.
-module _ (m : ℕ) (some : 0 < m) (small : m < 2 ^ width) where
-  here : has m (lowest m) ≡ true
-  here = lowest-has m some small
-
-  pub lowest-low : lowest m < width
-  lowest-low = within-below m width (lowest m) (lt-within m width small) here
-
-  without-less : removed m (only (lowest m)) < m
-  unfolding removed shared
-  without-less =
-      let part : bitAnd m (only (lowest m)) ≡ 0 → ⊥ =
-      λ e.
-      true≢false
-      (sym (has-shared m (only (lowest m)) (lowest m) ∙ rw (here, has-only (lowest m) (lowest m) lowest-low, eq-eqb (lowest m) (lowest m) refl)) ∙
-      ap (λ (x : ℕ). has x (lowest m)) e ∙ has-empty (lowest m)) in
-      omega (arith, pos-of-ne-zero part)
-
-  without-other : (g : ℕ) → has (removed m (only (lowest m))) g ≡ false → (g ≡ lowest m → ⊥) → has m g ≡ false
-  without-other g h ne =
-      sym (and-true (has m g)) ∙ ap (λ (b : Bool). has m g && not b) (sym (ne-eqb g (lowest m) ne)) ∙ sym (has-without m (lowest m) g lowest-low) ∙ h
-
-  pub lowest-taken : (R : ℕ → List ℕ → Type 0) (s after : List ℕ) (f next : ℕ) → f ≡ lowest m → next ≡ removed m (only f) → RowPut (R f) f s after
-      → Taken R m s next after
-  lowest-taken R s after f next e n w =
-      let same : next ≡ removed m (only (lowest m)) = n ∙ ap (λ (g : ℕ). removed m (only g)) e in
-      record {
-        fact = f;
-        put = w;
-        fewer = omega (arith, same, without-less);
-        others = λ g h ne. without-other g (ap (λ (x : ℕ). has x g) (sym same) ∙ h) (λ k. ne (k ∙ sym e));
-      }
+-- One row more, that of the lowest fact that is left.
+pub searched-more : (t : Task) → WellFormed t → (m : ℕ) → 0 < m → (s u : List ℕ) → Searched t m s u → (f : ℕ) → f ≡ lowest m → (next : ℕ)
+    → next ≡ removed m (only f) → (after : List ℕ) → Rewritten t f u after → Searched t next s after
+searched-more t well m some s u done f e next n after put = record {
+  low = λ g h. done .low g (without-in t well m some (done .low) f e next n g h .0);
+  rows = rows-more (RightRow t) s (λ g. has m g ≡ false) (λ g. has next g ≡ false) f u after (without-out t well m some (done .low) f e next n) (done .rows) put;
+}

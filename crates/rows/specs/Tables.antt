@@ -46,6 +46,9 @@ Filled t s after = RowsPut (λ f. Unit {0}) (RightRow t) s after
 abbrev pub emptyRow : List ℕ
 emptyRow = 0 ∷ replicate maxRow unused
 
+abbrev pub EmptyRows : List ℕ → Type 0
+EmptyRows s = (f : ℕ) → f < maxFacts → rowAt s f ≡ emptyRow
+
 abbrev pub Emptied : List ℕ → List ℕ → Type 0
 Emptied s after = RowsPut (λ f. Unit {0}) (λ f row. row ≡ emptyRow) s after
 

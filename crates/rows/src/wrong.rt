@@ -28,12 +28,12 @@ fn wrong_in(t: Task, run: usize) -> u64
 }
 
 // The facts that are wrong in some run.
-pub(crate) fn wrong_facts(t: Task) -> u64
+pub fn wrong_facts(t: Task) -> u64
     requires { ⌜ WellFormed t ⌝ }
     ensures { λ r. ⌜ WrongFacts t r ⌝ }
 {
-    let mut wrong = 0;
-    for run in 0..t.runs.many {
+    let mut wrong = wrong_in(t, 0);
+    for run in 1..t.runs.many {
         wrong = facts::join(wrong, wrong_in(t, run));
     }
     wrong

@@ -13,10 +13,9 @@ use Rattle.table.specs.Sizes.{perFact}
 use Rattle.table.specs.Strips.{Courses, AllRight}
 use Rattle.table.proofs.FlagLaws.{is-false, or-cases, or-left, or-right}
 use Rattle.table.proofs.RepairLaws.{right-more}
-use Rattle.search.specs.declared.Column.{Column}
 use Rattle.choices.specs.declared.Choice.{Choice}
 use Rattle.choices.specs.Choices.{inChoice, numbersIn, listOf, codeNumber, Contains, Apart}
-use Rattle.search.specs.Columns.{cellsIn}
+use Rattle.search.specs.Columns.{Column, cellsIn}
 use Rattle.search.specs.Searching.{Complete, Sought, Lacks, Among, OutFor, Reached}
 use Rattle.choices.specs.Trying.{withRepair, bothOf, withoutThose, CodesBelow, NextIn}
 use Rattle.choices.proofs.ChoiceLaws.{listOf-only, listOf-members, listOf-has, in-both, in-without-cases, with-cases, with-length, contains-with}

@@ -9,16 +9,15 @@ use borrow.Author.Count.{below-none, below-more}
 use borrow.Author.Tests.{not-true}
 use Rattle.facts.specs.Sets.{has, joined, removed}
 use Rattle.facts.proofs.Laws.{has-joined, has-removed}
-use Rattle.table.specs.Sizes.{maxActions, maxSteps}
+use Rattle.table.specs.Sizes.{maxActions, maxSteps, maxRuns, allSteps}
 use Rattle.table.specs.Strips.{Course, Right, stateAt}
 use Rattle.table.specs.Repairs.{dropDelete, addEffect, dropNeed}
 use Rattle.table.proofs.FlagLaws.{and-left, and-right, and-both, is-false}
 use Rattle.table.proofs.RunLaws.{stateAt-first, stateAt-next}
 use Rattle.choices.proofs.MaskLaws.{chosen-has}
-use Rattle.search.specs.declared.Column.{Column}
 use Rattle.choices.specs.declared.Choice.{Choice}
 use Rattle.search.specs.declared.narrow.Place.{Place}
-use Rattle.search.specs.Columns.{cellsIn, courseIn, ColumnFormed}
+use Rattle.search.specs.Columns.{Column, cellsIn, courseIn, RunFormed}
 use Rattle.search.specs.Gaps.{Gap, missing-at, nowhere, Noted, stays, moves}
 use Rattle.search.specs.Searching.{cellsWith, NeededAt, by-step, by-goal, Missing}
 
@@ -43,14 +42,24 @@ module _ (col : Column) (s : Choice) (a : ℕ) (ha : a < maxActions) where
 -- ---- the walk along the run
 
 -- A step of a run, where it stands.
-module _ (col : Column) (steps : List ℕ) (formed : ColumnFormed col steps) (run : ℕ) (low : run < col .runs) (i : ℕ)
-    (inside : i < courseIn col steps run .count) where
-  pub step-inside : maxSteps * run + i < length steps
-  step-inside = omega (arith, formed .runs-high, formed .steps-length, formed .run run low .count-high)
+module _ (col : Column) (count : ℕ) (steps : List ℕ) (run : ℕ) (low : run < maxRuns) (formed : RunFormed col (courseIn col count steps run))
+    (i : ℕ) (inside : i < courseIn col count steps run .count) where
+  pub step-inside : maxSteps * run + i < allSteps
+  step-inside = omega (arith, formed .count-high)
 
   pub step-read : getD steps (maxSteps * run + i) 0 < maxActions
   unfolding courseIn
-  step-read = omega (arith, formed .run run low .steps-below i inside, formed .actions-high)
+  step-read = omega (arith, formed .steps-below i inside, formed .actions-high)
+
+-- The first so many steps of a run are one too.
+pub run-cut : (col : Column) (count j : ℕ) (steps : List ℕ) (run : ℕ) → j ≤ count → RunFormed col (courseIn col count steps run)
+    → RunFormed col (courseIn col j steps run)
+unfolding courseIn
+run-cut col count j steps run low formed = record {
+  actions-high = formed .actions-high;
+  count-high = omega (arith, formed .count-high);
+  steps-below = λ i h. formed .steps-below i (omega arith);
+}
 
 -- Before place i: the state of the fact there.
 pub record Walked (col : Column) (r : Course) (s : Choice) (present : Bool) (i : ℕ) : Type 0 where

@@ -20,10 +20,9 @@ use Rattle.table.proofs.FlagLaws.{or-cases, or-left, or-right, and-left, and-ri
 use Rattle.table.proofs.RepairNumbers.{inside-permits, permitted-number}
 use Rattle.table.proofs.RepairLaws.{repairable-delete, repairable-add, repairable-need, repaired-repairable}
 use Rattle.table.proofs.RunLaws.{stateAt-first, stateAt-next}
-use Rattle.search.specs.declared.Column.{Column}
 use Rattle.choices.specs.declared.Choice.{Choice}
 use Rattle.choices.specs.Choices.{inChoice, codeOf, codeKind, codeAction, codeNumber, numbersIn, Apart}
-use Rattle.search.specs.Columns.{cellsIn, KeepsIn, RunFormed}
+use Rattle.search.specs.Columns.{Column, cellsIn, KeepsIn, RunFormed}
 use Rattle.search.specs.Gaps.{LastDelete, Named, need-at, that-delete, add-between, ConflictAt, ActionsOf}
 use Rattle.search.specs.Searching.{cellsWith, NeededAt, by-step, by-goal, Missing, Allowed}
 use Rattle.choices.specs.Trying.{maskIn}
@@ -46,12 +45,12 @@ noDelete-more col r s j i since here k low high = ⊎-elim
     (λ l. since k (omega arith) high) (eq-or-lt-of-le low)
 
 -- Looking back has one end.
-last-later : (col : Column) (r : Course) (s : Choice) (j i k : ℕ) → LastDelete col r s j i → LastDelete col r s j k → k ≤ i
+last-later : (col : Column) (r : Course) (s : Choice) (j i k : ℕ) → LastDelete col (r .step) s j i → LastDelete col (r .step) s j k → k ≤ i
 last-later col r s j i k here there = by-order i k
     (λ h. absurd (true≢false (sym (there .deleted (omega arith)) ∙ here .since (k - 1) (omega arith) (omega (arith, there .within)))))
     (λ h. h)
 
-last-unique : (col : Column) (r : Course) (s : Choice) (j i k : ℕ) → LastDelete col r s j i → LastDelete col r s j k → i ≡ k
+last-unique : (col : Column) (r : Course) (s : Choice) (j i k : ℕ) → LastDelete col (r .step) s j i → LastDelete col (r .step) s j k → i ≡ k
 last-unique col r s j i k here there = omega (arith, last-later col r s j i k here there, last-later col r s j k i there here)
 
 -- ---- gathering actions
@@ -135,7 +134,7 @@ needed-within col r s j (by-goal e _) = omega arith
 pub missing-within : (col : Column) (r : Course) (s : Choice) (j : ℕ) → Missing col r s j → j ≤ r .count
 missing-within col r s j missing = needed-within col r s j (missing .needed)
 
-module _ (col : Column) (r : Course) (s : Choice) (j i : ℕ) (missing : Missing col r s j) (back : LastDelete col r s j i) where
+module _ (col : Column) (r : Course) (s : Choice) (j i : ℕ) (missing : Missing col r s j) (back : LastDelete col (r .step) s j i) where
   -- present at some place after the last delete, the fact would be present at j
   absent-since : (m : ℕ) → i ≤ m → m ≤ j → stateAt (cellsWith col s) r m (col .fact) ≡ false
   absent-since m low high = is-false _ (λ h.
@@ -169,7 +168,7 @@ module _ (col : Column) (r : Course) (s : Choice) (j i : ℕ) (missing : Missing
       need (by-goal e g) = absurd (omega arith)
   still (suc (suc (suc k))) p h low high = absurd (omega arith)
 
-module _ (col : Column) (r : Course) (s : Choice) (j i : ℕ) (actions : col .actions ≤ maxActions) (formed : RunFormed col r) (missing : Missing col r s j) (back : LastDelete col r s j i)
+module _ (col : Column) (r : Course) (s : Choice) (j i : ℕ) (formed : RunFormed col r) (missing : Missing col r s j) (back : LastDelete col (r .step) s j i)
     (q : Choice) (parts : (k : ℕ) → k < kinds → ActionsOf (r .step) (lowPlace i j k) (highPlace r i j k) (maskIn k q)) where
   high-within : (k : ℕ) → k < kinds → highPlace r i j k ≤ r .count
   high-within zero h = omega (arith, missing-within col r s j missing, back .within)
@@ -191,7 +190,7 @@ module _ (col : Column) (r : Course) (s : Choice) (j i : ℕ) (actions : col .ac
     place-inside = place-action
 
     place-low : r .step p < maxActions
-    place-low = omega (arith, place-action, actions)
+    place-low = omega (arith, place-action, formed .actions-high)
 
     place-cell : (repairable (cellsIn col) (col .fact) k (r .step p)
         && not (chosen (numbersIn (col .fact) s) (col .fact) k (r .step p))) ≡ true
@@ -308,7 +307,7 @@ module _ (col : Column) (r : Course) (s : Choice) (j i : ℕ) (actions : col .ac
       by-kind zero e p low high here =
           let step : i ≡ p + 1 = omega arith in
           let same : codeOf dropDelete (r .step p) ≡ code = omega arith in
-          subst (Named col r s j) same (that-delete p (subst (LastDelete col r s j) step back))
+          subst (Named col r s j) same (that-delete p (subst (LastDelete col (r .step) s j) step back))
       by-kind (suc zero) e p low high here =
           let same : codeOf addEffect (r .step p) ≡ code = omega arith in
           subst (Named col r s j) same (add-between i p back (omega arith) high)
@@ -338,11 +337,11 @@ module _ (col : Column) (r : Course) (s : Choice) (j i : ℕ) (actions : col .ac
   }
 
 -- The sets that the code gathers make a conflict.
-module _ (col : Column) (r : Course) (s : Choice) (j i place end d a n : ℕ) (actions : col .actions ≤ maxActions) (formed : RunFormed col r) (missing : Missing col r s j)
-    (back : LastDelete col r s j i) (first : place ≡ i - 1) (last : end ≡ min (j + 1) (r .count)) where
+module _ (col : Column) (r : Course) (s : Choice) (j i place end d a n : ℕ) (formed : RunFormed col r) (missing : Missing col r s j)
+    (back : LastDelete col (r .step) s j i) (first : place ≡ i - 1) (last : end ≡ min (j + 1) (r .count)) where
   pub gathered-conflict : ActionsOf (r .step) place i d → ActionsOf (r .step) place j a → ActionsOf (r .step) j end n
       → ConflictAt col r s j (record { deletes = d; adds = a; needs = n })
-  gathered-conflict hd ha hn = is-conflict col r s j i actions formed missing back (record { deletes = d; adds = a; needs = n }) parts
+  gathered-conflict hd ha hn = is-conflict col r s j i formed missing back (record { deletes = d; adds = a; needs = n }) parts
     where
       parts : (k : ℕ) → k < kinds → ActionsOf (r .step) (lowPlace i j k) (highPlace r i j k) (byKind k d a n)
       parts zero h = subst (λ (p : ℕ). ActionsOf (r .step) p i d) first hd

@@ -18,10 +18,9 @@ use Rattle.table.specs.Strips.{Courses, AllRight}
 use Rattle.table.proofs.FlagLaws.{is-false, both, and-both}
 use Rattle.table.proofs.OrderLaws.{isIn-none, ≼-trans, ≼-length, first-difference-first}
 use Rattle.table.proofs.RepairLaws.{right-more}
-use Rattle.search.specs.declared.Column.{Column}
 use Rattle.choices.specs.declared.Choice.{Choice}
 use Rattle.choices.specs.Choices.{nothing, inChoice, numbersIn, listOf, codeNumber, Contains, Apart}
-use Rattle.search.specs.Columns.{cellsIn, KeepsIn}
+use Rattle.search.specs.Columns.{Column, cellsIn, KeepsIn}
 use Rattle.search.specs.Searching.{cellsWith, Allowed, Among, SomeOf, Agree, Earlier, Short, Shortest}
 use Rattle.choices.specs.Trying.{sharedBy, withoutThose, CodesBelow, NextIn}
 use Rattle.search.specs.Views.{Fullest}

@@ -12,20 +12,18 @@ use Rattle.table.specs.Lists.{gather, piece}
 use Rattle.table.specs.Repairs.{numberOf, numbered}
 use Rattle.table.specs.Sizes.{maxFacts, maxRow, perFact, unused}
 use Rattle.table.specs.Strips.{Courses}
-use Rattle.table.specs.Tasks.{WellFormed, KeepsFor}
+use Rattle.table.specs.Tasks.{KeepsFor}
 use Rattle.table.specs.declared.Task.{Task}
-use Rattle.table.proofs.AnswerLaws.{first-same}
+use Rattle.table.proofs.AnswerLaws.{within-same}
 use Rattle.table.proofs.GatherLaws.{gather-none, gather-part, gather-step, passing}
-use Rattle.table.proofs.JoinLaws.{keepsFor-outside}
 use Rattle.table.proofs.RepairNumbers.{numbered-inside}
 use Rattle.choices.specs.Choices.{codeKind, codeAction, inChoice, listOf, codeNumber}
-use Rattle.search.specs.Columns.{coursesIn, KeepsIn}
-use Rattle.search.specs.Rows.{rowOf, rowWith, rowOver, rowHopeless, RightRow}
+use Rattle.search.specs.Columns.{Column, coursesIn, KeepsIn}
+use Rattle.search.specs.Rows.{rowOf, rowWith, rowOver, rowHopeless, RowFor, RightRow}
 use Rattle.search.specs.Searching.{Rightness, Shortest}
 use Rattle.choices.specs.Trying.{NextIn}
 use Rattle.search.specs.Views.{Shows, Fullest}
 use Rattle.choices.specs.declared.Choice.{Choice}
-use Rattle.search.specs.declared.Column.{Column}
 use Rattle.choices.proofs.ChoiceLaws.{codes, codes-length, weight}
 use Rattle.search.proofs.ViewLaws.{keeps-in, in-keeps, fullest-right, fullest-keeps}
 
@@ -105,59 +103,30 @@ module _ (f : ℕ) (s : Choice) where
 
 -- ---- which row is right
 
--- A fact from F up is right as it stands.
-pub outside-row : (t : Task) → WellFormed t → (f : ℕ) (row : List ℕ) → t .table .facts ≤ f → row ≡ (0 ∷ replicate maxRow unused) → RightRow t f row
-unfolding rowOf
-outside-row t well f row h e = record { verdict = found []; within = (keepsFor-outside t well f h, omega arith); shown = e }
-
 -- A row has room for what the search found.
-pub found-short : (col : Column) (rs : Courses) (f : ℕ) (any : Bool) (best : Choice) → col .fact ≡ f → any ≡ true → Shortest col rs any best → length (listOf f best) ≤ maxRow
-found-short col rs f false best own some short = absurd (false≢true some)
-found-short col rs f true best own some short = subst (λ (g : ℕ). length (listOf g best) ≤ maxRow) own (short .1)
+pub found-short : (col : Column) (rs : Courses) (any : Bool) (best : Choice) → any ≡ true → Shortest col rs any best → length (listOf (col .fact) best) ≤ maxRow
+found-short col rs false best some short = absurd (false≢true some)
+found-short col rs true best some short = short .1
 
-module _ (t : Task) (f : ℕ) (row : List ℕ) (col : Column) (own : col .fact ≡ f) (shows : Shows t col) (inside : f < t .table .facts) where
-  here : col .fact < t .table .facts
-  here = omega (arith, own, inside)
-
-  -- What is right for the column's fact is right for f, which it is.
-  for-fact : RightRow t (col .fact) row → RightRow t f row
-  for-fact right = subst (λ (g : ℕ). RightRow t g row) own right
-
-  pub found-row : (any : Bool) (best : Choice) → any ≡ true → Shortest col (coursesIn col (t .runs .steps)) any best → row ≡ rowOf (found (listOf f best)) → RightRow t f row
+module _ (col : Column) (rs : Courses) (row : List ℕ) where
+  pub found-row : (any : Bool) (best : Choice) → any ≡ true → Shortest col rs any best → row ≡ rowOf (found (listOf (col .fact) best)) → RowFor (KeepsIn col rs) row
   found-row false best some short e = absurd (false≢true some)
-  found-row true best some short e =
-      for-fact record {
-        verdict = found (listOf (col .fact) best);
-        within = (
-          first-same (KeepsIn col (coursesIn col (t .runs .steps))) (KeepsFor t (col .fact)) (in-keeps t col shows here) (keeps-in t col shows here) (listOf (col .fact) best) (short .0),
-          short .1,
-        );
-        shown = e ∙ ap (λ (g : ℕ). rowOf (found (listOf g best))) (sym own);
-      }
+  found-row true best some short e = record { verdict = found (listOf (col .fact) best); within = short; shown = e }
 
-  pub over-row : (any : Bool) (best full : Choice) → any ≡ false → Shortest col (coursesIn col (t .runs .steps)) any best → Fullest col full
-      → Rightness col (coursesIn col (t .runs .steps)) full true → row ≡ (rowOver ∷ replicate maxRow unused) → RightRow t f row
+  pub over-row : (any : Bool) (best full : Choice) → any ≡ false → Shortest col rs any best → Fullest col full → Rightness col rs full true
+      → row ≡ (rowOver ∷ replicate maxRow unused) → RowFor (KeepsIn col rs) row
   unfolding rowOf
   over-row true best full nothing short most right e = absurd (false≢true (sym nothing))
   over-row false best full nothing short most right e =
-      for-fact record {
-        verdict = over;
-        within = (
-          (
-            listOf (col .fact) full,
-            in-keeps t col shows here (listOf (col .fact) full) (fullest-keeps col (coursesIn col (t .runs .steps)) full most right),
-          ),
-          λ m keeps. short m (keeps-in t col shows here m keeps),
-        );
-        shown = e;
-      }
+      record { verdict = over; within = ((listOf (col .fact) full, fullest-keeps col rs full most right), short); shown = e }
 
-  pub hopeless-row : (full : Choice) → Fullest col full → Rightness col (coursesIn col (t .runs .steps)) full false
-      → row ≡ (rowHopeless ∷ replicate maxRow unused) → RightRow t f row
+  pub hopeless-row : (full : Choice) → Fullest col full → Rightness col rs full false → row ≡ (rowHopeless ∷ replicate maxRow unused)
+      → RowFor (KeepsIn col rs) row
   unfolding rowOf
   hopeless-row full most wrong e =
-      for-fact record {
-        verdict = hopeless;
-        within = λ m keeps. wrong (fullest-right col (coursesIn col (t .runs .steps)) full most m (keeps-in t col shows here m keeps));
-        shown = e;
-      }
+      record { verdict = hopeless; within = λ m keeps. wrong (fullest-right col rs full most m keeps); shown = e }
+
+-- The row of a column that shows the task's fact is the task's.
+module _ (t : Task) (col : Column) (shows : Shows t col) (inside : col .fact < t .table .facts) where
+  pub row-shown : (row : List ℕ) → RowFor (KeepsIn col (coursesIn col (t .runs .counts) (t .runs .steps))) row → RightRow t (col .fact) row
+  row-shown row right = record { verdict = right .verdict; within = within-same (KeepsIn col (coursesIn col (t .runs .counts) (t .runs .steps))) (KeepsFor t (col .fact)) (in-keeps t col shows inside) (keeps-in t col shows inside) maxRow (right .verdict) (right .within); shown = right .shown }

@@ -13,10 +13,9 @@ use Rattle.table.specs.Sizes.{perFact}
 use Rattle.table.specs.Strips.{Course, Courses, one, Right, AllRight, stateAt}
 use Rattle.table.proofs.FlagLaws.{is-false, by-order}
 use Rattle.table.proofs.OrderLaws.{compared, ≼-length, subset-first}
-use Rattle.search.specs.declared.Column.{Column}
 use Rattle.choices.specs.declared.Choice.{Choice}
 use Rattle.choices.specs.Choices.{inChoice, listOf, codeNumber, Contains, Apart, Shares}
-use Rattle.search.specs.Columns.{cellsIn, KeepsIn}
+use Rattle.search.specs.Columns.{Column, cellsIn, KeepsIn}
 use Rattle.search.specs.Searching.{cellsWith, NeededAt, Missing, Allowed, Conflicts, Lacks, Rightness, Complete, LackingBelow, Lacking, Among, SomeOf, OutFor}
 use Rattle.search.specs.Gaps.{Gap}
 use Rattle.choices.specs.Trying.{withRepair, withoutThose, NextIn, Sharing}

@@ -24,10 +24,9 @@ use Rattle.table.proofs.RunLaws.{SameCourseAt, SameCoursesAt, sameCourses-sym}
 use Rattle.table.proofs.RepairNumbers.{permitted-permits}
 use Rattle.search.proofs.SearchLaws.{right-keeps}
 use Rattle.choices.specs.Choices.{inChoice, numbersIn, listOf, codeNumber, codeKind, codeAction}
-use Rattle.search.specs.Columns.{cellsIn, courseIn, coursesIn, KeepsIn, ColumnFormed}
+use Rattle.search.specs.Columns.{Column, cellsIn, courseIn, coursesIn, KeepsIn, ColumnFormed}
 use Rattle.search.specs.Searching.{cellsWith}
 use Rattle.search.specs.Views.{Gathers, GathersBelow, Shows, Fullest}
-use Rattle.search.specs.declared.Column.{Column}
 use Rattle.choices.specs.declared.Choice.{Choice}
 
 -- ---- gathering a mask of actions
@@ -64,23 +63,20 @@ module _ (sets : ℕ → ℕ) (f : ℕ) where
       (compared a i)
 
 -- A row of sets is empty past its end.
-pub gathers-end : (sets : List ℕ) (f i m : ℕ) → length sets ≡ maxActions → i ≡ maxActions → GathersBelow (λ a. getD sets a 0) f i m
-    → Gathers (λ a. getD sets a 0) f m
-gathers-end sets f i m e all below a = ⊎-elim inside outside (below-or-not a maxActions)
+pub gathers-end : (sets : List ℕ) (f i m : ℕ) → i ≡ length sets → GathersBelow (λ a. getD sets a 0) f i m → Gathers (λ a. getD sets a 0) f m
+gathers-end sets f i m all below a = ⊎-elim inside outside (below-or-not a (length sets))
   where
     below-or-not : (x y : ℕ) → (x < y) ⊎ (y ≤ x)
     below-or-not x y = ⊎-elim inl (λ w. inr (⊎-elim (λ e. omega arith) (λ l. omega arith) w)) (compared x y)
 
-    g : GathersBelow (λ b. getD sets b 0) f maxActions m
+    g : GathersBelow (λ b. getD sets b 0) f (length sets) m
     g = subst (λ (n : ℕ). GathersBelow (λ b. getD sets b 0) f n m) all below
 
-    inside : a < maxActions → has m a ≡ has (getD sets a 0) f
-    inside l = g a ∙ rw (lt-ltb a maxActions l)
+    inside : a < length sets → has m a ≡ has (getD sets a 0) f
+    inside l = g a ∙ rw (lt-ltb a (length sets) l)
 
-    outside : maxActions ≤ a → has m a ≡ has (getD sets a 0) f
-    outside l =
-        let past : length sets ≤ a = omega arith in
-        g a ∙ rw (le-ltb a maxActions l, List·getD-eq-default sets 0 past, has-empty f)
+    outside : length sets ≤ a → has m a ≡ has (getD sets a 0) f
+    outside l = g a ∙ rw (le-ltb a (length sets) l, List·getD-eq-default sets 0 l, has-empty f)
 
 -- ---- the fullest choice
 
@@ -139,24 +135,19 @@ fullest-keeps col rs s full right = right-keeps col rs s (λ code h chosen. sym 
 
 module _ (t : Task) (col : Column) (shows : Shows t col) where
   -- Each run of the column is the task's, at the column's fact.
-  same-course : (i : ℕ) → i < t .runs .many → SameCourseAt (col .fact) (courseOf (t .runs) i) (courseIn col (t .runs .steps) i)
+  same-course : (i : ℕ) → SameCourseAt (col .fact) (courseOf (t .runs) i) (courseIn col (getD (t .runs .counts) i 0) (t .runs .steps) i)
   unfolding courseOf courseIn
-  same-course i h = record {
-    start = sym (shows .start i ∙ rw (lt-ltb i (t .runs .many) h));
-    goal = sym (shows .goal i ∙ rw (lt-ltb i (t .runs .many) h));
-    count = ap (λ (l : List ℕ). getD l i 0) (sym (shows .counts));
-    steps = λ j low. refl;
-  }
+  same-course i = record { start = sym (shows .start i); goal = sym (shows .goal i); count = refl; steps = λ j low. refl }
 
-  pub shows-formed : WellFormed t → ColumnFormed col (t .runs .steps)
+  pub shows-formed : WellFormed t → ColumnFormed col (t .runs .counts) (t .runs .steps)
   unfolding courseOf courseIn
   shows-formed well = record {
     actions-high = omega (arith, shows .actions, well .actions-high);
     runs-high = omega (arith, shows .runs, well .many-high);
-    steps-length = well .shaped .steps;
     run = λ i h.
-        let same = same-course i (omega (arith, shows .runs)) in
+        let same = same-course i in
         record {
+          actions-high = omega (arith, shows .actions, well .actions-high);
           count-high = omega (arith, same .count, well .count-high i);
           steps-below = λ j low. omega (arith, well .steps-below i j (omega (arith, same .count)), shows .actions);
         };
@@ -173,14 +164,14 @@ module _ (t : Task) (col : Column) (shows : Shows t col) (inside : col .fact < t
     deletes = λ a. sym (shows .deletes a);
   }
 
-  same-courses : SameCoursesAt (col .fact) (coursesOf t) (coursesIn col (t .runs .steps))
-  same-courses = record { many = sym (shows .runs); each = same-course t col shows }
+  same-courses : SameCoursesAt (col .fact) (coursesOf t) (coursesIn col (t .runs .counts) (t .runs .steps))
+  same-courses = record { many = sym (shows .runs); each = λ i h. same-course t col shows i }
 
   -- So a list keeps the fact right in the task exactly if it does so in the column.
-  pub keeps-in : (l : List ℕ) → KeepsFor t (col .fact) l → KeepsIn col (coursesIn col (t .runs .steps)) l
-  keeps-in = keeps-alike (col .fact) (cellsOf (t .table)) (cellsIn col) same-cells (coursesOf t) (coursesIn col (t .runs .steps)) same-courses
+  pub keeps-in : (l : List ℕ) → KeepsFor t (col .fact) l → KeepsIn col (coursesIn col (t .runs .counts) (t .runs .steps)) l
+  keeps-in = keeps-alike (col .fact) (cellsOf (t .table)) (cellsIn col) same-cells (coursesOf t) (coursesIn col (t .runs .counts) (t .runs .steps)) same-courses
 
-  pub in-keeps : (l : List ℕ) → KeepsIn col (coursesIn col (t .runs .steps)) l → KeepsFor t (col .fact) l
+  pub in-keeps : (l : List ℕ) → KeepsIn col (coursesIn col (t .runs .counts) (t .runs .steps)) l → KeepsFor t (col .fact) l
   in-keeps =
-      keeps-alike (col .fact) (cellsIn col) (cellsOf (t .table)) (alike-sym (col .fact) _ _ same-cells) (coursesIn col (t .runs .steps)) (coursesOf t)
+      keeps-alike (col .fact) (cellsIn col) (cellsOf (t .table)) (alike-sym (col .fact) _ _ same-cells) (coursesIn col (t .runs .counts) (t .runs .steps)) (coursesOf t)
       (sameCourses-sym (col .fact) _ _ same-courses)

@@ -7,8 +7,8 @@ use Rattle.facts.specs.Sets.{has}
 use Rattle.table.specs.Repairs.{dropDelete, addEffect, dropNeed}
 use Rattle.table.specs.Sizes.{perFact}
 use Rattle.table.specs.Strips.{Course, one, Right}
-use Rattle.search.specs.declared.Column.{Column}
 use Rattle.choices.specs.declared.Choice.{Choice}
+use Rattle.search.specs.Columns.{Column}
 use Rattle.search.specs.declared.narrow.Place.{Place}
 use Rattle.choices.specs.Choices.{inChoice, codeOf}
 use Rattle.search.specs.Searching.{cellsWith, Missing, Conflicts}
@@ -27,17 +27,17 @@ pub data Noted (count : ℕ) (best : Place) (i : ℕ) (missing : Bool) (r : Plac
 
 -- "Look back from j until the last step that deleted f is met, or the start. (A step deleted f if its action, with the
 -- candidate applied, has f as a delete.)" The steps count from 1, and 0 is the start.
-pub record LastDelete (col : Column) (r : Course) (s : Choice) (j i : ℕ) : Type 0 where
+pub record LastDelete (col : Column) (step : ℕ → ℕ) (s : Choice) (j i : ℕ) : Type 0 where
   pub within : i ≤ j
-  pub deleted : 0 < i → cellsWith col s .deletes (r .step (i - 1)) (col .fact) ≡ true
-  pub since : (k : ℕ) → i ≤ k → k < j → cellsWith col s .deletes (r .step k) (col .fact) ≡ false
+  pub deleted : 0 < i → cellsWith col s .deletes (step (i - 1)) (col .fact) ≡ true
+  pub since : (k : ℕ) → i ≤ k → k < j → cellsWith col s .deletes (step k) (col .fact) ≡ false
 
 -- "one of: drop the need at j (not for a goal), drop that delete, add f at any step from the deleting one up to j-1": a repair
 -- of these, by its code. Step i stands at place i - 1; where looking back met the start, the adds are from the first step on.
 pub data Named (col : Column) (r : Course) (s : Choice) (j : ℕ) : ℕ → Type 0 where
   need-at : j < r .count → Named col r s j (codeOf dropNeed (r .step j))
-  that-delete : (p : ℕ) → LastDelete col r s j (p + 1) → Named col r s j (codeOf dropDelete (r .step p))
-  add-between : (i p : ℕ) → LastDelete col r s j i → i ≤ p + 1 → p < j → Named col r s j (codeOf addEffect (r .step p))
+  that-delete : (p : ℕ) → LastDelete col (r .step) s j (p + 1) → Named col r s j (codeOf dropDelete (r .step p))
+  add-between : (i p : ℕ) → LastDelete col (r .step) s j i → i ≤ p + 1 → p < j → Named col r s j (codeOf addEffect (r .step p))
 
 -- q is the conflict of the candidate s at place j: its repairs are those named there, no more and no fewer, and "Every
 -- working list that contains the present candidate has one of" them.

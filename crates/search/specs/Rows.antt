@@ -33,9 +33,13 @@ verdictIn row =
     cond {A = Verdict} (eqb (getD row 0 0) rowOver) over
     (cond {A = Verdict} (eqb (getD row 0 0) rowHopeless) hopeless (found (take (getD row 0 0) (drop 1 row))))
 
--- The row is the right one for fact f of the task: "A row's list is the first of the shortest that keep this one fact
--- right." A fact from F up has no permitted repair and is right without one, so that its row is empty.
-pub record RightRow (t : Task) (f : ℕ) (row : List ℕ) : Type 0 where
+-- The row of the lists of G: "A row's list is the first of the shortest".
+pub record RowFor (G : List ℕ → Type 0) (row : List ℕ) : Type 0 where
   pub verdict : Verdict
-  pub within : Within (KeepsFor t f) maxRow verdict
+  pub within : Within G maxRow verdict
   pub shown : row ≡ rowOf verdict
+
+-- The row is the right one for fact f of the task: that of the lists "that keep this one fact right." A fact from F up has no
+-- permitted repair and is right without one, so that its row is empty.
+abbrev pub RightRow : Task → ℕ → List ℕ → Type 0
+RightRow t f row = RowFor (KeepsFor t f) row

@@ -9,10 +9,9 @@ use Rattle.table.specs.Order.{isIn}
 use Rattle.table.specs.Repairs.{permitted, repaired}
 use Rattle.table.specs.Sizes.{maxRow, perFact}
 use Rattle.table.specs.Strips.{Cells, Course, Courses, Right, AllRight, stateAt}
-use Rattle.search.specs.declared.Column.{Column}
 use Rattle.choices.specs.declared.Choice.{Choice}
 use Rattle.choices.specs.Choices.{inChoice, numbersIn, listOf, codeNumber, Contains, Misses, Meets, Apart, Shares}
-use Rattle.search.specs.Columns.{cellsIn, KeepsIn}
+use Rattle.search.specs.Columns.{Column, cellsIn, KeepsIn}
 
 -- The column's table with a candidate applied.
 abbrev pub cellsWith : Column → Choice → Cells

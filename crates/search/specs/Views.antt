@@ -9,29 +9,27 @@ use Rattle.table.specs.Repairs.{permitted}
 use Rattle.table.specs.Sizes.{perFact}
 use Rattle.table.specs.Tasks.{startOf, goalOf}
 use Rattle.table.specs.declared.Task.{Task}
-use Rattle.search.specs.declared.Column.{Column}
 use Rattle.choices.specs.declared.Choice.{Choice}
 use Rattle.choices.specs.Choices.{inChoice, codeNumber}
-use Rattle.search.specs.Columns.{cellsIn}
+use Rattle.search.specs.Columns.{Column, cellsIn}
 
--- The actions whose set has fact f.
+-- The actions, or the runs, whose set has fact f.
 abbrev pub Gathers : (ℕ → ℕ) → ℕ → ℕ → Type 0
 Gathers sets f m = (a : ℕ) → has m a ≡ has (sets a) f
 
--- The actions, or the runs, below n whose set has fact f.
+-- Those below n.
 abbrev pub GathersBelow : (ℕ → ℕ) → ℕ → ℕ → ℕ → Type 0
 GathersBelow sets f n m = (a : ℕ) → has m a ≡ (ltb a n && has (sets a) f)
 
--- The column shows its fact of the task: which actions need, add and delete it, and the runs' starts, goals and numbers of steps.
+-- The column shows its fact of the task: which actions need, add and delete it, and the runs' starts and goals.
 pub record Shows (t : Task) (col : Column) : Type 0 where
   pub actions : col .actions ≡ t .table .actions
   pub needs : Gathers (λ a. getD (t .table .needs) a 0) (col .fact) (col .needs)
   pub adds : Gathers (λ a. getD (t .table .adds) a 0) (col .fact) (col .adds)
   pub deletes : Gathers (λ a. getD (t .table .deletes) a 0) (col .fact) (col .deletes)
   pub runs : col .runs ≡ t .runs .many
-  pub start : GathersBelow (startOf (t .runs)) (col .fact) (t .runs .many) (col .start)
-  pub goal : GathersBelow (goalOf (t .runs)) (col .fact) (t .runs .many) (col .goal)
-  pub counts : col .counts ≡ t .runs .counts
+  pub start : Gathers (startOf (t .runs)) (col .fact) (col .start)
+  pub goal : Gathers (goalOf (t .runs)) (col .fact) (col .goal)
 
 -- Every permitted repair of the column's fact, and nothing else.
 abbrev pub Fullest : Column → Choice → Type 0

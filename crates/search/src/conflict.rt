@@ -1,22 +1,29 @@
 // The conflict of a candidate at a place where its fact is missing: repairs of which every working list has one, those
 // that contain the candidate and all others (document 01, "A conflict"; source document 000).
-use crate::Column;
+use crate::CELLS;
 use crate::gap;
 use choices::Choice;
+use table::ALL_STEPS;
 use table::STEPS;
 ghost use mathlib.Core.Path.{_≡_};
 ghost use Prim.Native.Nat.{_+_, _-_, _<_, _≤_, min};
-ghost use Rattle.search.specs.Columns.{ColumnFormed, courseIn};
+ghost use Rattle.table.specs.Sizes.{maxRuns};
+ghost use Rattle.search.specs.Columns.{columnIn, RunFormed, courseIn};
 ghost use Rattle.search.specs.Gaps.{LastDelete, ConflictAt, ActionsOf};
 ghost use Rattle.search.specs.Searching.{Missing};
 
 // "Look back from j until the last step that deleted f is met, or the start": the deleting step, counted from 1, or 0
 // for the start.
-pub(crate) fn look_back(col: Column, steps: &[u8], run: usize, s: Choice, j: usize) -> usize
-    requires { ⌜ ColumnFormed col (now steps) ⌝ }
-    requires { ⌜ run < col .runs ⌝ }
-    requires { ⌜ j ≤ courseIn col (now steps) run .count ⌝ }
-    ensures { λ r. ⌜ LastDelete col (courseIn col (now (steps .entry)) run) s j r ⌝ }
+pub(crate) fn look_back(
+    col: &[u64; CELLS],
+    steps: &[u8; ALL_STEPS],
+    run: usize,
+    s: Choice,
+    j: usize,
+) -> usize
+    requires { ⌜ run < maxRuns ⌝ }
+    requires { ⌜ RunFormed (columnIn (now col)) (courseIn (columnIn (now col)) j (now steps) run) ⌝ }
+    ensures { λ r. ⌜ LastDelete (columnIn (now (col .entry))) (courseIn (columnIn (now (col .entry))) j (now (steps .entry)) run .step) s j r ⌝ }
 {
     let from = STEPS * run;
     let mut i = j;
@@ -35,16 +42,15 @@ pub(crate) fn look_back(col: Column, steps: &[u8], run: usize, s: Choice, j: usi
 // The set of the actions of the steps from `start` on and before `end`, counted from 0. A repair changes an action
 // everywhere it is run, so a step stands for its action.
 pub(crate) fn actions_between(
-    col: Column,
-    steps: &[u8],
+    col: &[u64; CELLS],
+    steps: &[u8; ALL_STEPS],
     run: usize,
     start: usize,
     end: usize,
 ) -> u64
-    requires { ⌜ ColumnFormed col (now steps) ⌝ }
-    requires { ⌜ run < col .runs ⌝ }
-    requires { ⌜ end ≤ courseIn col (now steps) run .count ⌝ }
-    ensures { λ r. ⌜ ActionsOf (courseIn col (now (steps .entry)) run .step) start end r ⌝ }
+    requires { ⌜ run < maxRuns ⌝ }
+    requires { ⌜ RunFormed (columnIn (now col)) (courseIn (columnIn (now col)) end (now steps) run) ⌝ }
+    ensures { λ r. ⌜ ActionsOf (courseIn (columnIn (now (col .entry))) end (now (steps .entry)) run .step) start end r ⌝ }
 {
     let from = STEPS * run;
     let mut found = 0;
@@ -70,13 +76,19 @@ pub(crate) fn after_step(j: usize, count: usize) -> usize
 }
 
 // "drop the need at j (not for a goal), drop that delete, add f at any step from the deleting one up to j-1"
-pub(crate) fn conflict(col: Column, steps: &[u8], run: usize, s: Choice, j: usize) -> Choice
-    requires { ⌜ ColumnFormed col (now steps) ⌝ }
-    requires { ⌜ run < col .runs ⌝ }
-    requires { ⌜ Missing col (courseIn col (now steps) run) s j ⌝ }
-    ensures { λ r. ⌜ ConflictAt col (courseIn col (now (steps .entry)) run) s j r ⌝ }
+pub(crate) fn conflict(
+    col: &[u64; CELLS],
+    steps: &[u8; ALL_STEPS],
+    run: usize,
+    count: usize,
+    s: Choice,
+    j: usize,
+) -> Choice
+    requires { ⌜ run < maxRuns ⌝ }
+    requires { ⌜ RunFormed (columnIn (now col)) (courseIn (columnIn (now col)) count (now steps) run) ⌝ }
+    requires { ⌜ Missing (columnIn (now col)) (courseIn (columnIn (now col)) count (now steps) run) s j ⌝ }
+    ensures { λ r. ⌜ ConflictAt (columnIn (now (col .entry))) (courseIn (columnIn (now (col .entry))) count (now (steps .entry)) run) s j r ⌝ }
 {
-    let count = col.counts[run];
     let step = look_back(col, steps, run, s, j);
     let place = place_of(step);
     let deletes = actions_between(col, steps, run, place, step);

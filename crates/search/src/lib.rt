@@ -8,25 +8,32 @@ mod least;
 mod narrow;
 pub mod row;
 mod search;
-mod view;
+pub mod view;
 
 use choices::Choice;
-use table::RUNS;
 
 // One fact's cells: the actions that need it, add it and delete it, as masks of actions; the runs that have it at the start and
-// those that have it as a goal, as masks of runs; and how many steps each run has. A fact can be diagnosed by itself (source
-// document 003), so this and the steps, which are lent, are all that a search looks at.
-pub struct Column {
-    pub fact: usize,
-    pub actions: usize,
-    pub needs: u64,
-    pub adds: u64,
-    pub deletes: u64,
-    pub runs: usize,
-    pub start: u64,
-    pub goal: u64,
-    pub counts: [usize; RUNS],
-}
+// those that have it as a goal, as masks of runs. A fact can be diagnosed by itself (source document 003), so this and the runs'
+// steps, which are lent, are all that a search looks at.
+//
+// They stand as numbers at these places, since an array can be lent: no try copies it (02, request 5).
+pub const CELLS: usize = 8;
+
+const FACT: usize = 0;
+
+const ACTION_COUNT: usize = 1;
+
+const NEEDS: usize = 2;
+
+const ADDS: usize = 3;
+
+const DELETES: usize = 4;
+
+const RUN_COUNT: usize = 5;
+
+const STARTS: usize = 6;
+
+const GOALS: usize = 7;
 
 // A set of repairs, if there is any that is as asked for.
 pub struct Found {

@@ -1,11 +1,15 @@
 // Of the places where the fact is missing, one with the fewest repairs left. Every such place has a conflict, and document 01
 // does not say at which to look: which one it is, is for speed alone, and what is promised is that the fact is missing there.
-use crate::Column;
+use crate::CELLS;
+use crate::GOALS;
+use crate::STARTS;
 use crate::gap;
 use choices::Choice;
+use table::ALL_STEPS;
 use table::STEPS;
 ghost use Prim.Native.Nat.{_<_};
-ghost use Rattle.search.specs.Columns.{ColumnFormed, courseIn};
+ghost use Rattle.table.specs.Sizes.{maxRuns};
+ghost use Rattle.search.specs.Columns.{columnIn, RunFormed, courseIn};
 ghost use Rattle.search.specs.Gaps.{Gap, Noted};
 
 // A place, and how many repairs are left there.
@@ -57,14 +61,20 @@ fn narrower(best: Place, i: usize, count: usize, missing: bool, q: Choice) -> Pl
 
 // A place where the fact is missing, one with the fewest repairs that are not out; or the one after the goal's. With one
 // repair left, or none, there is no narrower place to look for.
-pub(crate) fn narrowest_gap(col: Column, steps: &[u8], run: usize, s: Choice, out: Choice) -> usize
-    requires { ⌜ ColumnFormed col (now steps) ⌝ }
-    requires { ⌜ run < col .runs ⌝ }
-    ensures { λ r. ⌜ Gap col (courseIn col (now (steps .entry)) run) s r ⌝ }
+pub(crate) fn narrowest_gap(
+    col: &[u64; CELLS],
+    steps: &[u8; ALL_STEPS],
+    run: usize,
+    count: usize,
+    s: Choice,
+    out: Choice,
+) -> usize
+    requires { ⌜ run < maxRuns ⌝ }
+    requires { ⌜ RunFormed (columnIn (now col)) (courseIn (columnIn (now col)) count (now steps) run) ⌝ }
+    ensures { λ r. ⌜ Gap (columnIn (now (col .entry))) (courseIn (columnIn (now (col .entry))) count (now (steps .entry)) run) s r ⌝ }
 {
-    let count = col.counts[run];
     let from = STEPS * run;
-    let mut present = facts::contains(col.start, run);
+    let mut present = facts::contains(col[STARTS], run);
     let mut open = choices::nothing();
     let mut best = Place {
         at: count + 1,
@@ -87,6 +97,6 @@ pub(crate) fn narrowest_gap(col: Column, steps: &[u8], run: usize, s: Choice, ou
         open = opened(open, a, gone);
         present = (present & !gone) | gap::adds_with(col, s, a);
     }
-    let missing = facts::contains(col.goal, run) & !present;
+    let missing = facts::contains(col[GOALS], run) & !present;
     narrower(best, count, count, missing, choices::without(open, out)).at
 }

@@ -1,10 +1,13 @@
 // A fact's row of the session table (document 01, "The session table").
+use crate::CELLS;
+use crate::FACT;
 use crate::lack;
 use crate::least;
 use crate::view;
 use choices::Choice;
+use table::ALL_STEPS;
 use table::ROW_PLACES;
-use table::Task;
+use table::RUNS;
 use table::UNUSED;
 use table::repair::Repair;
 ghost use mathlib.Core.List.{_∷_};
@@ -13,9 +16,9 @@ ghost use Prim.Native.Nat.{_<_, _≤_};
 ghost use lib.ListN.{length, getD, replicate};
 ghost use Rattle.table.specs.Answer.{found};
 ghost use Rattle.table.specs.Sizes.{maxFacts, maxRow, perFact, unused};
-ghost use Rattle.table.specs.Tasks.{WellFormed};
 ghost use Rattle.choices.specs.Choices.{codeNumber, listOf};
-ghost use Rattle.search.specs.Rows.{rowOf, rowWith, RightRow};
+ghost use Rattle.search.specs.Columns.{columnIn, coursesIn, KeepsIn, ColumnFormed};
+ghost use Rattle.search.specs.Rows.{rowOf, rowWith, RowFor};
 
 // First numbers that announce no list.
 pub const OVER: usize = 7;
@@ -75,32 +78,29 @@ fn row_of_choice(f: usize, s: Choice) -> Filling
     row
 }
 
-// The right row of fact f: the least list if it has at most six; else 8 if not even the fullest choice keeps the fact
-// right, and 7 if that does. A fact from F up is right as it stands.
-fn right_row(t: Task, f: usize) -> Filling
-    requires { ⌜ WellFormed t ⌝ }
-    ensures { λ r. ⌜ RightRow t f (r .places) ⌝ }
+// The row of a column's fact: the least list if it has at most six; else 8 if not even the fullest choice keeps the fact right,
+// and 7 if that does.
+fn row_in(col: &[u64; CELLS], counts: &[usize; RUNS], steps: &[u8; ALL_STEPS]) -> Filling
+    requires { ⌜ ColumnFormed (columnIn (now col)) (now counts) (now steps) ⌝ }
+    requires { ⌜ (columnIn (now col)) .fact < maxFacts ⌝ }
+    ensures { λ r. ⌜ RowFor (KeepsIn (columnIn (now (col .entry))) (coursesIn (columnIn (now (col .entry))) (now (counts .entry)) (now (steps .entry)))) (r .places) ⌝ }
 {
-    let facts = t.table.facts;
-    if facts <= f {
-        return bare_row(0);
-    }
-    let col = view::column_of(t, f);
-    let found = least::shortest(col, &t.runs.steps);
+    let found = least::shortest(col, counts, steps);
     if found.any {
-        return row_of_choice(f, found.choice);
+        return row_of_choice(col[FACT] as usize, found.choice);
     }
-    if lack::is_right(col, &t.runs.steps, view::fullest(col)) {
+    if lack::is_right(col, counts, steps, view::fullest(col)) {
         bare_row(OVER as u16)
     } else {
         bare_row(HOPELESS as u16)
     }
 }
 
-pub fn row(t: Task, f: usize) -> [u16; ROW_PLACES]
-    requires { ⌜ WellFormed t ⌝ }
-    ensures { λ r. ⌜ RightRow t f r ⌝ }
+pub fn row(col: &[u64; CELLS], counts: &[usize; RUNS], steps: &[u8; ALL_STEPS]) -> [u16; ROW_PLACES]
+    requires { ⌜ ColumnFormed (columnIn (now col)) (now counts) (now steps) ⌝ }
+    requires { ⌜ (columnIn (now col)) .fact < maxFacts ⌝ }
+    ensures { λ r. ⌜ RowFor (KeepsIn (columnIn (now (col .entry))) (coursesIn (columnIn (now (col .entry))) (now (counts .entry)) (now (steps .entry)))) r ⌝ }
 {
-    let row = right_row(t, f);
+    let row = row_in(col, counts, steps);
     row.places
 }

@@ -1,5 +1,9 @@
 // One fact's column of a task, and the fullest choice of a column's repairs.
-use crate::Column;
+use crate::ACTION_COUNT;
+use crate::ADDS;
+use crate::CELLS;
+use crate::DELETES;
+use crate::NEEDS;
 use choices::Choice;
 use table::ACTIONS;
 use table::RUNS;
@@ -9,8 +13,9 @@ ghost use mathlib.Core.Path.{_≡_};
 ghost use Prim.Native.Nat.{_≤_};
 ghost use lib.ListN.{getD};
 ghost use Rattle.facts.specs.Sets.{joined, only};
-ghost use Rattle.table.specs.Sizes.{maxActions, maxRuns};
-ghost use Rattle.search.specs.Views.{Gathers, GathersBelow, Shows, Fullest};
+ghost use Rattle.table.specs.Sizes.{maxActions};
+ghost use Rattle.search.specs.Columns.{columnIn};
+ghost use Rattle.search.specs.Views.{Gathers, Shows, Fullest};
 
 fn with_if(m: u64, a: usize, wanted: bool) -> u64
     ensures { λ r. ⌜ r ≡ cond wanted (joined m (only a)) m ⌝ }
@@ -29,51 +34,47 @@ fn actions_having(sets: [u64; ACTIONS], f: usize) -> u64
     m
 }
 
-// The runs whose set has fact f, of the first so many.
-fn runs_having(sets: [u64; RUNS], many: usize, f: usize) -> u64
-    requires { ⌜ many ≤ maxRuns ⌝ }
-    ensures { λ r. ⌜ GathersBelow (λ i. getD sets i 0) f many r ⌝ }
+// The runs whose set has fact f.
+fn runs_having(sets: [u64; RUNS], f: usize) -> u64
+    ensures { λ r. ⌜ Gathers (λ i. getD sets i 0) f r ⌝ }
 {
     let mut m = 0;
-    for i in 0..many {
+    for i in 0..RUNS {
         m = with_if(m, i, facts::contains(sets[i], f));
     }
     m
 }
 
-pub(crate) fn column_of(t: Task, f: usize) -> Column
-    requires { ⌜ t .runs .many ≤ maxRuns ⌝ }
-    ensures { λ r. ⌜ (r .fact ≡ f) × Shows t r ⌝ }
+// The column of fact f.
+pub fn column_of(t: Task, f: usize) -> [u64; CELLS]
+    ensures { λ r. ⌜ (columnIn r .fact ≡ f) × Shows t (columnIn r) ⌝ }
 {
     let needs = t.table.needs;
     let adds = t.table.adds;
     let deletes = t.table.deletes;
-    let many = t.runs.many;
     let starts = t.runs.starts;
     let goals = t.runs.goals;
-    let counts = t.runs.counts;
-    Column {
-        fact: f,
-        actions: t.table.actions,
-        needs: actions_having(needs, f),
-        adds: actions_having(adds, f),
-        deletes: actions_having(deletes, f),
-        runs: many,
-        start: runs_having(starts, many, f),
-        goal: runs_having(goals, many, f),
-        counts,
-    }
+    [
+        f as u64,
+        t.table.actions as u64,
+        actions_having(needs, f),
+        actions_having(adds, f),
+        actions_having(deletes, f),
+        t.runs.many as u64,
+        runs_having(starts, f),
+        runs_having(goals, f),
+    ]
 }
 
 // Every permitted repair of the column's fact: if these do not keep it right, nothing does.
-pub(crate) fn fullest(col: Column) -> Choice
-    requires { ⌜ col .actions ≤ maxActions ⌝ }
-    ensures { λ r. ⌜ Fullest col r ⌝ }
+pub(crate) fn fullest(col: &[u64; CELLS]) -> Choice
+    requires { ⌜ (columnIn (now col)) .actions ≤ maxActions ⌝ }
+    ensures { λ r. ⌜ Fullest (columnIn (now (col .entry))) r ⌝ }
 {
-    let all = facts::below_mask(col.actions);
+    let all = facts::below_mask(col[ACTION_COUNT] as usize);
     Choice {
-        deletes: facts::overlap(all, col.deletes),
-        adds: facts::remove(all, col.adds),
-        needs: facts::overlap(all, col.needs),
+        deletes: facts::overlap(all, col[DELETES]),
+        adds: facts::remove(all, col[ADDS]),
+        needs: facts::overlap(all, col[NEEDS]),
     }
 }

@@ -23,7 +23,7 @@ use Rattle.table.proofs.RefusalLaws.{silent}
 use Rattle.table.proofs.ReplyLaws.{one-answer}
 use Rattle.table.specs.Refusals.{Refusal, firstOf, refuse, none, accepted, notWellFormed, notASession, notThere}
 use Rattle.table.specs.Join.{joinVerdicts}
-use Rattle.table.specs.Sizes.{maxFacts, sessionPlaces}
+use Rattle.table.specs.Sizes.{sessionPlaces}
 use Rattle.table.specs.Tasks.{WellFormed, formed}
 use Rattle.table.specs.declared.Reply.{Reply}
 use Rattle.table.specs.declared.Task.{Task}
@@ -117,17 +117,22 @@ module _ (t : Task) (s : List ℕ) where
         accepted = λ k. (subst (EditedTo t e) (sym made) (edited-exactly t e w o), subst (λ (g : ℕ). Rewritten u g s after) fact row);
       }
 
-of-fact : (t : Task) → WellFormed t → (f : ℕ) (b : Bool) → (b && ltb f (t .table .facts)) ≡ true → f < maxFacts
-of-fact t w f b h = omega (arith, w .facts-high, ltb-true f (t .table .facts) (and-right b (ltb f (t .table .facts)) h))
+of-fact : (t : Task) (f : ℕ) (b : Bool) → (b && ltb f (t .table .facts)) ≡ true → f < t .table .facts
+of-fact t f b h = ltb-true f (t .table .facts) (and-right b (ltb f (t .table .facts)) h)
 
--- An edit inside names a fact that has a row.
-pub inside-low : (t : Task) → WellFormed t → (c : Cell) → cellInside t c ≡ true → cellFact c < maxFacts
+-- An edit inside names a fact of the task, and so of the edited one.
+inside-low : (t : Task) (c : Cell) → cellInside t c ≡ true → cellFact c < t .table .facts
 unfolding cellInside
-inside-low t w (Need a f) h = of-fact t w f (ltb a (t .table .actions)) h
-inside-low t w (Add a f) h = of-fact t w f (ltb a (t .table .actions)) h
-inside-low t w (Delete a f) h = of-fact t w f (ltb a (t .table .actions)) h
-inside-low t w (Start r f) h = of-fact t w f (ltb r (t .runs .many)) h
-inside-low t w (Goal r f) h = of-fact t w f (ltb r (t .runs .many)) h
+inside-low t (Need a f) h = of-fact t f (ltb a (t .table .actions)) h
+inside-low t (Add a f) h = of-fact t f (ltb a (t .table .actions)) h
+inside-low t (Delete a f) h = of-fact t f (ltb a (t .table .actions)) h
+inside-low t (Start r f) h = of-fact t f (ltb r (t .runs .many)) h
+inside-low t (Goal r f) h = of-fact t f (ltb r (t .runs .many)) h
+
+pub edited-low : (t : Task) (e : Edit) → WellFormed t → cellInside t (e .cell) ≡ true → {u : Task} {f : ℕ} → u ≡ edited t e → f ≡ cellFact (e .cell)
+    → f < u .table .facts
+edited-low t e w o {u} {f} made fact =
+    omega (arith, fact, inside-low t (e .cell) o, edited-exactly t e w o .facts, ap (λ (x : Task). x .table .facts) made)
 
 module _ (t : Task) (s room : List ℕ) where
   pub listed-malformed : formed t ≡ false → listed t s room ≡ refused notWellFormed room

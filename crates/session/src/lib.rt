@@ -26,6 +26,7 @@ pub fn open(t: Task, table: &mut [u16]) -> Reply
         // A longer table is refused too.
         return table::refusal(refusals::NOT_A_SESSION);
     }
+    rows::empty_rows(table);
     rows::fill(t, table);
     Reply {
         number: refusals::ACCEPTED,

@@ -1,6 +1,7 @@
--- The laws of the report and of the answer.
+-- The laws of the report, of the join and of the answer.
 pub mod ReportLaws
 pub mod FullLists
 pub mod Hopeless
 pub mod SolveLaws
+pub mod JoinedLaws
 pub mod Called

@@ -1,27 +1,28 @@
--- Laws of the report: what one row more adds to the sum and to the room, and what the sum tells.
+-- Laws of the report: what one row more adds to the sum and to the room, and what the numbers tell.
 -- Assumes nothing.
 use mathlib.Core.Bool.{Bool, true, false, cond, _||_}
-use mathlib.Core.List.{List, [], _∷_, _++_}
+use mathlib.Core.List.{List, _++_}
 use mathlib.Core.Path.{_≡_, refl, sym, ap, _∙_, subst}
-use Prim.Native.Nat.{ℕ, _+_, _-_, _*_, _<_, _≤_}
+use Prim.Native.Nat.{ℕ, _+_, _*_, _<_, _≤_}
 use native.Mathlib.Omega.{arith}
 use lib.Dec.{eqb, leb, ltb}
 use lib.ListN.{length, getD, take, drop, length-append, length-drop}
-use lib.Seq.{getD-take, getD-drop, ext-getD, length-take-le, take-append-seam, drop-append-add, drop-drop}
-use borrow.Author.Tests.{eqb-true, eqb-false, leb-true, leb-false, le-leb, lt-leb, lt-ltb, le-ltb}
+use lib.Seq.{getD-take, getD-drop, ext-getD, length-take-le, take-append-seam, take-length, drop-append-add, drop-drop}
+use borrow.Author.Tests.{eqb-true, eqb-false, leb-true, leb-false, le-leb, lt-leb, ltb-true, ltb-false}
 use Rattle.search.specs.Rows.{rowOver, rowHopeless, verdictIn}
 use Rattle.table.specs.Counting.{someBelow, firstWhere}
 use Rattle.table.specs.Answer.{Verdict, found, over, hopeless}
 use Rattle.table.specs.Join.{isHopeless, isOver, foundList, joinLists, Joined, no-list, beyond, in-order, joinRows, readAgainst, joinVerdicts}
 use Rattle.table.specs.Refusals.{accepted, noListWorks, overTheLimit, roomTooShort}
 use Rattle.table.specs.Sizes.{maxFacts, maxRow, rowPlaces}
-use Rattle.table.proofs.FlagLaws.{by-order}
+use Rattle.table.proofs.FlagLaws.{or-neither, by-order}
 use Rattle.table.proofs.CountingLaws.{someBelow-first, someBelow-next, firstWhere-zero, firstWhere-next}
 use Rattle.table.proofs.GatherLaws.{gather-zero, gather-step, gather-part}
 use Rattle.rows.specs.Copies.{pasted}
-use Rattle.solve.specs.Reports.{sumOf}
+use Rattle.solve.specs.Reports.{sumOf, replyFor}
 use Rattle.solve.specs.Solving.{told}
-use Rattle.table.specs.Outcomes.{Outcome, refused, given}
+use Rattle.table.specs.Outcomes.{Outcome, refusal}
+use Rattle.table.specs.declared.Reply.{Reply}
 use Rattle.table.proofs.OutcomeLaws.{given-short, given-whole}
 use Rattle.rows.specs.Tables.{rowAt, verdictAt, repairsIn, Readable}
 use Rattle.solve.specs.declared.report.Sum.{Sum}
@@ -217,71 +218,105 @@ module _ (s : List ℕ) (n : ℕ) (before : List ℕ) where
       let e : f ≡ n = omega (arith, t .low) in
       subst (λ (g : ℕ). Listed s n before after at g) e t .room
 
--- ---- what the sum tells
+-- ---- what the numbers tell
 
-module _ (s : List ℕ) (n limit : ℕ) (room : List ℕ) (y : Sum) (e : y ≡ sumOf s n) where
-  some-hopeless : y .hopeless ≡ someBelow (λ f. isHopeless (verdictAt s f)) n
-  unfolding sumOf
-  some-hopeless = ap (λ (x : Sum). x .hopeless) e
+-- What the verdicts of the facts below n come to: one is hopeless, one is beyond a row, and the sum of the lengths.
+pub record ComeTo (v : ℕ → Verdict) (n : ℕ) (a b : Bool) (m : ℕ) : Type 0 where
+  pub hopeless : a ≡ someBelow (λ f. isHopeless (v f)) n
+  pub over : b ≡ ltb (firstWhere (λ f. isOver (v f)) n) n
+  pub total : m ≡ length (joinLists v n)
 
-  first-beyond : y .beyond ≡ firstWhere (λ f. isOver (verdictAt s f)) n
-  unfolding sumOf
-  first-beyond = ap (λ (x : Sum). x .beyond) e
+-- The answer, by the three tests that it depends on.
+abbrev byTests : ℕ → Bool → Bool → Bool → Reply
+byTests m x y z =
+    cond {A = Reply} x (refusal noListWorks)
+    (cond {A = Reply} y (refusal overTheLimit)
+    (cond {A = Reply} z (refusal roomTooShort) (record { number = accepted; place = 0; length = m })))
 
-  pub sum-total : y .total ≡ length (joinLists (verdictAt s) n)
-  unfolding sumOf
-  sum-total = ap (λ (x : Sum). x .total) e
+-- An answer with a length is the sum, within the limit and the room.
+pub reply-given : (a b : Bool) (m limit places : ℕ) (r : Reply) → r ≡ replyFor a b m limit places → (r .length ≡ 0 → ⊥)
+    → (r .length ≡ m) × (m ≤ limit) × (m ≤ places)
+unfolding replyFor
+reply-given a b m limit places r e some = pick a (b || ltb limit m) (ltb places m) refl refl e
+  where
+    pick : (x y z : Bool) → (b || ltb limit m) ≡ y → ltb places m ≡ z
+        → r ≡ byTests m x y z → (r .length ≡ m) × (m ≤ limit) × (m ≤ places)
+    pick true y z p q k = absurd (some (ap (λ (u : Reply). u .length) k))
+    pick false true z p q k = absurd (some (ap (λ (u : Reply). u .length) k))
+    pick false false true p q k = absurd (some (ap (λ (u : Reply). u .length) k))
+    pick false false false p q k =
+        (ap (λ (u : Reply). u .length) k, ltb-false limit m (or-neither b (ltb limit m) p .1), ltb-false places m q)
 
-  -- What the rows join to, by the sum's three numbers.
-  abbrev byNumbers : Bool → ℕ → ℕ → Verdict
-  byNumbers a b m =
-      cond {A = Verdict} a hopeless (cond {A = Verdict} (ltb b n || ltb limit m) over (found (joinLists (verdictAt s) n)))
+module _ (v : ℕ → Verdict) (n limit : ℕ) (room : List ℕ) (a b : Bool) (m : ℕ) (c : ComeTo v n a b m) where
+  -- What the verdicts join to, by the numbers.
+  abbrev byNumbers : Bool → Bool → ℕ → Verdict
+  byNumbers x y k = cond {A = Verdict} x hopeless (cond {A = Verdict} (y || ltb limit k) over (found (joinLists v n)))
 
-  sum-says : joinVerdicts (verdictAt s) n limit ≡ byNumbers (y .hopeless) (y .beyond) (y .total)
+  numbers-say : joinVerdicts v n limit ≡ byNumbers a b m
   unfolding joinRows readAgainst
-  sum-says =
-      pick (someBelow (λ f. isHopeless (verdictAt s f)) n) (firstWhere (λ f. isOver (verdictAt s f)) n) ∙
-      (λ j. byNumbers (sym some-hopeless j) (sym first-beyond j) (sym sum-total j))
+  numbers-say =
+      pick (someBelow (λ f. isHopeless (v f)) n) (ltb (firstWhere (λ f. isOver (v f)) n) n) ∙
+      (λ j. byNumbers (sym (c .hopeless) j) (sym (c .over) j) (sym (c .total) j))
     where
-      pick : (a : Bool) (b : ℕ)
-          → readAgainst limit (cond {A = Joined} a no-list (cond {A = Joined} (ltb b n) (beyond b) (in-order (joinLists (verdictAt s) n)))) ≡
-          byNumbers a b (length (joinLists (verdictAt s) n))
-      pick true b = refl
-      pick false b = by-order b n (λ l. rw (lt-ltb b n l)) (λ l. rw (le-ltb b n l))
+      pick : (x y : Bool)
+          → readAgainst limit
+          (cond {A = Joined} x no-list (cond {A = Joined} y (beyond (firstWhere (λ f. isOver (v f)) n)) (in-order (joinLists v n)))) ≡
+          byNumbers x y (length (joinLists v n))
+      pick true y = refl
+      pick false true = refl
+      pick false false = refl
 
-  abbrev pub isBeyond : Bool
-  isBeyond = ltb (y .beyond) n || ltb limit (y .total)
+  -- The answer, and as many of the joined list's numbers as it says: the verdict told.
+  pub numbers-told : (r : Reply) (after : List ℕ) → r ≡ replyFor a b m limit (length room)
+      → after ≡ take (r .length) (joinLists v n) ++ drop (r .length) room
+      → _≡_ {A = Outcome} (record { reply = r; room = after }) (told (joinVerdicts v n limit) room)
+  unfolding told replyFor
+  numbers-told r after e w =
+      (λ j. record { reply = r; room = w j }) ∙ (λ j. record { reply = e j; room = take (e j .length) (joinLists v n) ++ drop (e j .length) room }) ∙
+      pick a (b || ltb limit m) (ltb (length room) m) refl ∙ ap (λ (u : Verdict). told u room) (sym numbers-say)
+    where
+      pick : (x y z : Bool) → ltb (length room) m ≡ z
+          → _≡_ {A = Outcome}
+          (record { reply = byTests m x y z; room = take (byTests m x y z .length) (joinLists v n) ++ drop (byTests m x y z .length) room })
+          (told (cond {A = Verdict} x hopeless (cond {A = Verdict} y over (found (joinLists v n)))) room)
+      pick true y z q = refl
+      pick false true z q = refl
+      pick false false true q = sym (given-short (joinLists v n) room (omega (arith, c .total, ltb-true (length room) m q)))
+      pick false false false q =
+          given-whole (joinLists v n) room (take m (joinLists v n) ++ drop m room) m (omega (arith, c .total, ltb-false (length room) m q)) (c .total)
+          ((λ j. take (c .total j) (joinLists v n) ++ drop (c .total j) room) ∙
+          ap (λ (l : List ℕ). l ++ drop (length (joinLists v n)) room) (take-length (joinLists v n)))
 
-  pub told-hopeless : y .hopeless ≡ true → told (joinVerdicts (verdictAt s) n limit) room ≡ refused noListWorks room
-  unfolding told
-  told-hopeless h = ap (λ (v : Verdict). told v room) sum-says ∙ rw h
+-- ---- the same of a table's rows
 
-  pub told-over : y .hopeless ≡ false → isBeyond ≡ true → told (joinVerdicts (verdictAt s) n limit) room ≡ refused overTheLimit room
-  unfolding told
-  told-over h k = ap (λ (v : Verdict). told v room) sum-says ∙ rw (h, k)
+module _ (s : List ℕ) (n limit : ℕ) (room : List ℕ) (y : Sum) (e : y ≡ sumOf s n) (r : Reply)
+    (d : r ≡ replyFor (y .hopeless) (ltb (y .beyond) n) (y .total) limit (length room)) where
+  comes : ComeTo (verdictAt s) n (y .hopeless) (ltb (y .beyond) n) (y .total)
+  unfolding sumOf
+  comes = record {
+    hopeless = ap (λ (x : Sum). x .hopeless) e;
+    over = ap (λ (x : Sum). ltb (x .beyond) n) e;
+    total = ap (λ (x : Sum). x .total) e;
+  }
 
-  -- No row says 7 or 8, and the lengths sum to no more than the limit: the joined list is given.
-  told-given : y .hopeless ≡ false → isBeyond ≡ false → told (joinVerdicts (verdictAt s) n limit) room ≡ given (joinLists (verdictAt s) n) room
-  unfolding told
-  told-given h k = ap (λ (v : Verdict). told v room) sum-says ∙ rw (h, k)
+  fits : (r .length ≡ 0 → ⊥) → (r .length ≡ y .total) × (y .total ≤ limit) × (y .total ≤ length room)
+  fits = reply-given (y .hopeless) (ltb (y .beyond) n) (y .total) limit (length room) r d
 
-  pub told-short : y .hopeless ≡ false → isBeyond ≡ false → length room < y .total
-      → told (joinVerdicts (verdictAt s) n limit) room ≡ refused roomTooShort room
-  told-short h k l = told-given h k ∙ given-short (joinLists (verdictAt s) n) room (omega (arith, sum-total))
+  pub sum-fits : (r .length ≡ 0 → ⊥) → length (joinLists (verdictAt s) n) ≤ length room
+  sum-fits some = omega (arith, comes .total, fits some .2)
 
-  pub answered-told : y .hopeless ≡ false → isBeyond ≡ false → y .total ≤ length room → (after : List ℕ)
-      → after ≡ joinLists (verdictAt s) n ++ drop (length (joinLists (verdictAt s) n)) room
-      → _≡_ {A = Outcome} (record { reply = record { number = accepted; place = 0; length = y .total }; room = after })
-      (told (joinVerdicts (verdictAt s) n limit) room)
-  answered-told h k l after w =
-      given-whole (joinLists (verdictAt s) n) room after (y .total) (omega (arith, sum-total)) sum-total w ∙ sym (told-given h k)
+  told-with : (after : List ℕ) → after ≡ take (r .length) (joinLists (verdictAt s) n) ++ drop (r .length) room
+      → _≡_ {A = Outcome} (record { reply = r; room = after }) (told (joinVerdicts (verdictAt s) n limit) room)
+  told-with after = numbers-told (verdictAt s) n limit room (y .hopeless) (ltb (y .beyond) n) (y .total) comes r after d
 
   -- Nothing is to be written, and nothing was.
-  pub none-told : y .hopeless ≡ false → isBeyond ≡ false → y .total ≡ 0
-      → _≡_ {A = Outcome} (record { reply = record { number = accepted; place = 0; length = y .total }; room = room })
-      (told (joinVerdicts (verdictAt s) n limit) room)
-  none-told h k e = answered-told h k (omega (arith, e)) room (unwritten (joinLists (verdictAt s) n) (omega (arith, e, sum-total)))
-    where
-      unwritten : (l : List ℕ) → length l ≡ 0 → room ≡ l ++ drop (length l) room
-      unwritten [] e = refl
-      unwritten (x ∷ l) e = absurd (omega arith)
+  pub none-told : r .length ≡ 0 → _≡_ {A = Outcome} (record { reply = r; room = room }) (told (joinVerdicts (verdictAt s) n limit) room)
+  none-told none = told-with room (ap (λ (k : ℕ). take k (joinLists (verdictAt s) n) ++ drop k room) (sym none))
+
+  pub answered-told : (r .length ≡ 0 → ⊥) → (after : List ℕ)
+      → after ≡ joinLists (verdictAt s) n ++ drop (length (joinLists (verdictAt s) n)) room
+      → _≡_ {A = Outcome} (record { reply = r; room = after }) (told (joinVerdicts (verdictAt s) n limit) room)
+  answered-told some after w =
+      let l : List ℕ = joinLists (verdictAt s) n in
+      let k : length l ≡ r .length = sym (fits some .0 ∙ comes .total) in
+      told-with after (w ∙ ap (λ (x : List ℕ). x ++ drop (length l) room) (sym (take-length l)) ∙ ap (λ (i : ℕ). take i l ++ drop i room) k)

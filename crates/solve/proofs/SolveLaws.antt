@@ -3,7 +3,7 @@ use mathlib.Core.Bool.{Bool, true, false, true≢false}
 use mathlib.Core.List.{List}
 use mathlib.Core.Path.{_≡_, refl, sym, ap, _∙_}
 use Prim.Native.Nat.{ℕ}
-use Rattle.table.specs.Answer.{Verdict}
+use Rattle.table.specs.Answer.{Verdict, Within}
 use Rattle.table.specs.Join.{joinVerdicts}
 use Rattle.table.specs.Refusals.{notWellFormed}
 use Rattle.table.specs.Tasks.{WorksFor, WellFormed, formed}
@@ -19,13 +19,14 @@ module _ (t : Task) (room : List ℕ) where
   pub solves-malformed : (o : Outcome) → formed t ≡ false → o ≡ refused notWellFormed room → Solves t room o
   solves-malformed o h e = record { malformed = λ k. e; verdict = λ k. absurd (true≢false (sym k ∙ h)) }
 
-  -- The rows of a well-formed task, joined and told, are the solve.
+  -- The verdict on a well-formed task, told, is the solve.
+  pub solves-verdict : WellFormed t → (v : Verdict) → Within (WorksFor t) (t .table .limit) v → (o : Outcome) → o ≡ told v room → Solves t room o
+  solves-verdict w v q o e = record { malformed = λ k. absurd (true≢false (sym (well-formed t w) ∙ k)); verdict = λ k. (v, q, e) }
+
+  -- So are its rows, joined and told.
   pub solves-told : WellFormed t → (s : List ℕ) → RightRows t s → (o : Outcome)
       → o ≡ told (joinVerdicts (verdictAt s) (t .table .facts) (t .table .limit)) room → Solves t room o
-  solves-told w s b o e = record {
-    malformed = λ k. absurd (true≢false (sym (well-formed t w) ∙ k));
-    verdict = λ k. (joinVerdicts (verdictAt s) (t .table .facts) (t .table .limit), right-within t w s b, e);
-  }
+  solves-told w s b o e = solves-verdict w (joinVerdicts (verdictAt s) (t .table .facts) (t .table .limit)) (right-within t w s b) o e
 
   -- Two outcomes that meet the promise are equal.
   pub solve-unique : (o p : Outcome) → Solves t room o → Solves t room p → o ≡ p

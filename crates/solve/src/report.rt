@@ -19,7 +19,7 @@ ghost use Rattle.table.specs.Join.{joinLists, joinVerdicts};
 ghost use Rattle.table.specs.Sizes.{maxFacts, maxRow, allRows};
 ghost use Rattle.table.specs.Tasks.{WellFormed};
 ghost use Rattle.search.specs.Rows.{rowOver};
-ghost use Rattle.solve.specs.Reports.{sumOf};
+ghost use Rattle.solve.specs.Reports.{sumOf, replyFor};
 ghost use Rattle.solve.specs.Solving.{told};
 ghost use Rattle.table.specs.Outcomes.{Outcome};
 ghost use Rattle.rows.specs.Tables.{rowAt, verdictAt, repairsIn, Readable};
@@ -48,7 +48,7 @@ pub fn number_at(table: &[u16], f: usize, i: usize) -> usize
 }
 
 // How many repairs a row with this first number announces.
-fn announced(first: usize) -> usize
+pub(crate) fn announced(first: usize) -> usize
     ensures { λ r. ⌜ r ≡ cond (leb first maxRow) first 0 ⌝ }
 {
     if first <= ROW { first } else { 0 }
@@ -121,6 +121,33 @@ fn write_lists(table: &[u16], facts: usize, room: &mut [u16])
     }
 }
 
+// What is answered where the rows come to this: 9 if one says 8; else 10 if one says 7 or the sum of the lengths is over the limit; else 11 if
+// the room has fewer places; else the sum, as the list's length.
+pub(crate) fn answered(
+    hopeless: bool,
+    over: bool,
+    total: usize,
+    limit: usize,
+    places: usize,
+) -> Reply
+    ensures { λ r. ⌜ r ≡ replyFor hopeless over total limit places ⌝ }
+{
+    if hopeless {
+        return refusal(refusals::NO_LIST_WORKS);
+    }
+    if over | (limit < total) {
+        return refusal(refusals::OVER_THE_LIMIT);
+    }
+    if places < total {
+        return refusal(refusals::ROOM_TOO_SHORT);
+    }
+    Reply {
+        number: refusals::ACCEPTED,
+        place: 0,
+        length: total,
+    }
+}
+
 // The verdict that the rows join to, told into lent room.
 pub fn report(t: Task, table: &[u16], room: &mut [u16]) -> Reply
     requires { ⌜ WellFormed t ⌝ }
@@ -132,24 +159,16 @@ pub fn report(t: Task, table: &[u16], room: &mut [u16]) -> Reply
     let facts = t.table.facts;
     let limit = t.table.limit;
     let sum = sum_rows(table, facts);
-    let total = sum.total;
-    if sum.hopeless {
-        return refusal(refusals::NO_LIST_WORKS);
-    }
-    if (sum.beyond < facts) | (limit < total) {
-        return refusal(refusals::OVER_THE_LIMIT);
-    }
-    if room.len() < total {
-        return refusal(refusals::ROOM_TOO_SHORT);
-    }
-    let given = Reply {
-        number: refusals::ACCEPTED,
-        place: 0,
-        length: total,
-    };
-    if total == 0 {
-        return given;
+    let reply = answered(
+        sum.hopeless,
+        sum.beyond < facts,
+        sum.total,
+        limit,
+        room.len(),
+    );
+    if reply.length == 0 {
+        return reply;
     }
     write_lists(table, facts, room);
-    given
+    reply
 }

@@ -10,6 +10,7 @@ use borrow.Author.Tests.{ltb-true, leb-true, eqb-true, lt-ltb, le-ltb, le-leb, e
 use Rattle.facts.specs.Sets.{has, within}
 use Rattle.facts.proofs.Laws.{has-empty, within-has, has-within}
 use Rattle.table.specs.Counting.{everyBelow}
+use Rattle.table.specs.Passes.{CountsFit}
 use Rattle.table.specs.Sizes.{maxFacts, maxActions, maxRuns, maxSteps, allSteps, maxLimit}
 use Rattle.table.specs.Repairs.{byKind, dropDelete, addEffect, dropNeed}
 use Rattle.table.specs.Tasks.{maskOf, startOf, goalOf, countOf, stepOf, sizesFormed, maskFormed, actionFormed, runFits, runFormed, stepFits, stepFormed, formed, Shaped, WellFormed}
@@ -125,13 +126,11 @@ run-in t i h =
     )
 
 -- what the test says of the runs' numbers of steps
-pub counts-high : (t : Task) → everyBelow (runFormed t) maxRuns ≡ true → (i : ℕ) → i < maxRuns → countOf (t .runs) i ≤ maxSteps
+pub counts-fit : (t : Task) → everyBelow (runFormed t) maxRuns ≡ true → CountsFit (t .runs)
 unfolding RunIn
-counts-high t h i l = run-in t i (everyBelow-all (runFormed t) maxRuns h i l) .2
-
-pub counts-none : (t : Task) → everyBelow (runFormed t) maxRuns ≡ true → (i : ℕ) → t .runs .many ≤ i → i < maxRuns → countOf (t .runs) i ≡ 0
-unfolding RunIn
-counts-none t h i past l = run-in t i (everyBelow-all (runFormed t) maxRuns h i l) .3 past .2
+counts-fit t h =
+    let run : (i : ℕ) → i < maxRuns → RunIn t i = λ i l. run-in t i (everyBelow-all (runFormed t) maxRuns h i l) in
+    record { high = λ i l. run i l .2; none = λ i past l. run i l .3 past .2 }
 
 -- past the declared length of the arrays there is no run
 runs-in : (t : Task) → Shaped t → everyBelow (runFormed t) maxRuns ≡ true → (i : ℕ) → RunIn t i

@@ -4,14 +4,15 @@ use crate::ALL_STEPS;
 use crate::FACTS;
 use crate::LIMIT;
 use crate::RUNS;
+use crate::Runs;
 use crate::STEPS;
+use crate::Table;
 use crate::Task;
-ghost use mathlib.Core.Bool.{true};
 ghost use mathlib.Core.Path.{_≡_};
 ghost use denote.Ref.{now};
 ghost use Prim.Native.Nat.{_≤_};
 ghost use Rattle.table.specs.Counting.{everyBelow, everyFrom};
-ghost use Rattle.table.specs.Passes.{setsWithin, stepBelow};
+ghost use Rattle.table.specs.Passes.{CountsFit, ofRuns, setsWithin, stepBelow};
 ghost use Rattle.table.specs.Sizes.{maxActions, maxRuns, allSteps};
 ghost use Rattle.table.specs.Tasks.{formed, sizesFormed, runFits, runFormed, actionFormed, stepFormed};
 
@@ -75,14 +76,14 @@ fn are_within<'a>(
 }
 
 // "no set has a fact at or above F", "everything for unused actions .. is zero"
-fn are_actions_formed(t: Task) -> bool
-    requires { ⌜ t .table .actions ≤ maxActions ⌝ }
-    ensures { λ r. ⌜ r ≡ everyBelow (actionFormed (t .table)) maxActions ⌝ }
+fn are_actions_formed(t: Table) -> bool
+    requires { ⌜ t .actions ≤ maxActions ⌝ }
+    ensures { λ r. ⌜ r ≡ everyBelow (actionFormed t) maxActions ⌝ }
 {
-    let facts = t.table.facts;
-    let actions = t.table.actions;
-    are_within(&t.table.needs, &t.table.adds, &t.table.deletes, 0, facts)
-        & are_within(&t.table.needs, &t.table.adds, &t.table.deletes, actions, 0)
+    let facts = t.facts;
+    let actions = t.actions;
+    are_within(&t.needs, &t.adds, &t.deletes, 0, facts)
+        & are_within(&t.needs, &t.adds, &t.deletes, actions, 0)
 }
 
 // Whether every step from `from` on and before `to` is below n. All are compared, as bytes, and none ends the loop early: for the
@@ -98,25 +99,26 @@ fn are_below(steps: &[u8; ALL_STEPS], from: usize, to: usize, n: u8) -> bool
     good
 }
 
-// "steps are below A", "everything for unused .. steps is zero": run by run, and the places of the unused runs at once.
-fn are_steps_formed(t: Task) -> bool
-    requires { ⌜ t .runs .many ≤ maxRuns ⌝ }
-    requires { ⌜ t .table .actions ≤ maxActions ⌝ }
-    requires { ⌜ everyBelow (runFormed t) maxRuns ≡ true ⌝ }
-    ensures { λ r. ⌜ r ≡ everyBelow (stepFormed t) allSteps ⌝ }
+// "steps are below A", "everything for unused .. steps is zero": run by run, and the places of the unused runs at once. It takes
+// the runs and A and not the task, so that the table is not copied for it.
+fn are_steps_formed(runs: Runs, actions: usize) -> bool
+    requires { ⌜ runs .many ≤ maxRuns ⌝ }
+    requires { ⌜ actions ≤ maxActions ⌝ }
+    requires { ⌜ CountsFit runs ⌝ }
+    ensures { λ r. ⌜ r ≡ everyBelow (stepFormed (ofRuns runs actions)) allSteps ⌝ }
 {
-    let actions = t.table.actions as u8;
-    let many = t.runs.many;
-    let counts = t.runs.counts;
+    let actions = actions as u8;
+    let many = runs.many;
+    let counts = runs.counts;
     let mut good = true;
     for i in 0..many {
         let first = STEPS * i;
         let used = first + counts[i];
         good = good
-            & (are_below(&t.runs.steps, first, used, actions)
-                & are_below(&t.runs.steps, used, first + STEPS, 1));
+            & (are_below(&runs.steps, first, used, actions)
+                & are_below(&runs.steps, used, first + STEPS, 1));
     }
-    good & are_below(&t.runs.steps, STEPS * many, ALL_STEPS, 1)
+    good & are_below(&runs.steps, STEPS * many, ALL_STEPS, 1)
 }
 
 // Whether the task is well formed, for any task whatever.
@@ -129,5 +131,5 @@ pub fn is_formed(t: Task) -> bool
     if !are_runs_formed(t) {
         return false;
     }
-    are_actions_formed(t) & are_steps_formed(t)
+    are_actions_formed(t.table) & are_steps_formed(t.runs, t.table.actions)
 }

@@ -3,18 +3,16 @@
 use table::ACTIONS;
 use table::ALL_STEPS;
 use table::RUNS;
-use table::Runs;
 use table::STEPS;
-use table::Table;
 use table::Task;
 use taskfile::no_task;
 ghost use mathlib.Core.Bool.{true};
 ghost use mathlib.Core.List.{map};
 ghost use mathlib.Core.Path.{_≡_};
 ghost use Prim.Native.Nat.{_+_, _≤_};
-ghost use lib.ListN.{length, take, drop};
-ghost use Rattle.table.specs.Sizes.{maxRuns, allSteps};
-ghost use Rattle.taskwords.specs.Words.{Zeros, stepIn, stepsAt, unpacked, taskIn, taskWords};
+ghost use lib.ListN.{length, take, drop, replicate};
+ghost use Rattle.table.specs.Sizes.{maxActions, maxRuns, allSteps};
+ghost use Rattle.taskwords.specs.Words.{Zeros, masksAt, ofRunsAt, countsAt, stepIn, stepsAt, taskIn, taskWords};
 
 // Where the parts of a task stand among its words.
 pub const FACTS_AT: usize = 0;
@@ -54,16 +52,30 @@ fn copy_masks(words: &[u64], at: usize, masks: &mut [u64])
     }
 }
 
-// The number of steps of each run.
-fn counts_at(words: &[u64], at: usize) -> [usize; RUNS]
-    requires { ⌜ at + maxRuns ≤ length (now words) ⌝ }
-    ensures { λ r. ⌜ r ≡ take maxRuns (drop at (now (words .entry))) ⌝ }
+// The masks of all actions, and of all runs: a field of the task is lent as an array, which is no slice.
+fn copy_action_masks(words: &[u64], at: usize, masks: &mut [u64; ACTIONS])
+    requires { ⌜ at + maxActions ≤ length (now words) ⌝ }
+    ensures { λ _. ⌜ now (masks .exit) ≡ masksAt (now (words .entry)) at ⌝ }
 {
-    let mut counts = [0; RUNS];
+    copy_masks(words, at, masks);
+}
+
+fn copy_run_masks(words: &[u64], at: usize, masks: &mut [u64; RUNS])
+    requires { ⌜ at + maxRuns ≤ length (now words) ⌝ }
+    ensures { λ _. ⌜ now (masks .exit) ≡ ofRunsAt (now (words .entry)) at ⌝ }
+{
+    copy_masks(words, at, masks);
+}
+
+// The number of steps of each run.
+fn copy_counts(words: &[u64], counts: &mut [usize; RUNS])
+    requires { ⌜ length (now words) ≡ taskWords ⌝ }
+    requires { ⌜ length (now counts) ≡ maxRuns ⌝ }
+    ensures { λ _. ⌜ now (counts .exit) ≡ ofRunsAt (now (words .entry)) countsAt ⌝ }
+{
     for i in 0..RUNS {
-        counts[i] = words[at + i] as usize;
+        counts[i] = words[COUNTS_AT + i] as usize;
     }
-    counts
 }
 
 fn step_in(word: u64) -> u8
@@ -104,65 +116,36 @@ fn used_steps(words: &[u64]) -> usize
     ALL_STEPS
 }
 
-fn steps_at(words: &[u64], used: usize) -> [u8; ALL_STEPS]
+// The steps into an array of zeros.
+fn copy_steps(words: &[u64], used: usize, steps: &mut [u8; ALL_STEPS])
     requires { ⌜ length (now words) ≡ taskWords ⌝ }
     requires { ⌜ (used ≤ allSteps) × Zeros (now words) (stepsAt + used) taskWords ⌝ }
-    ensures { λ r. ⌜ r ≡ map stepIn (take allSteps (drop stepsAt (now (words .entry)))) ⌝ }
+    requires { ⌜ now steps ≡ replicate allSteps 0 ⌝ }
+    ensures { λ _. ⌜ now (steps .exit) ≡ map stepIn (take allSteps (drop stepsAt (now (words .entry)))) ⌝ }
 {
-    let mut steps = [0; ALL_STEPS];
     for i in 0..used {
         steps[i] = step_in(words[STEPS_AT + i]);
     }
-    steps
 }
 
-fn table_in(words: &[u64]) -> Table
-    requires { ⌜ length (now words) ≡ taskWords ⌝ }
-    ensures { λ r. ⌜ r ≡ unpacked (now (words .entry)) .table ⌝ }
-{
-    let mut needs = [0; ACTIONS];
-    let mut adds = [0; ACTIONS];
-    let mut deletes = [0; ACTIONS];
-    copy_masks(words, NEEDS_AT, &mut needs);
-    copy_masks(words, ADDS_AT, &mut adds);
-    copy_masks(words, DELETES_AT, &mut deletes);
-    Table {
-        facts: words[FACTS_AT] as usize,
-        actions: words[ACTIONS_AT] as usize,
-        limit: words[LIMIT_AT] as usize,
-        needs,
-        adds,
-        deletes,
-    }
-}
-
-fn runs_in(words: &[u64]) -> Runs
-    requires { ⌜ length (now words) ≡ taskWords ⌝ }
-    ensures { λ r. ⌜ r ≡ unpacked (now (words .entry)) .runs ⌝ }
-{
-    let mut starts = [0; RUNS];
-    let mut goals = [0; RUNS];
-    copy_masks(words, STARTS_AT, &mut starts);
-    copy_masks(words, GOALS_AT, &mut goals);
-    let counts = counts_at(words, COUNTS_AT);
-    let used = used_steps(words);
-    let steps = steps_at(words, used);
-    Runs {
-        many: words[MANY_AT] as usize,
-        starts,
-        goals,
-        counts,
-        steps,
-    }
-}
-
+// Each part is filled where it stands in the task, and none is built beside it.
 pub fn task_in(words: &[u64]) -> Task
     ensures { λ r. ⌜ r ≡ taskIn (now (words .entry)) ⌝ }
 {
     if words.len() != TASK_WORDS {
         return no_task();
     }
-    let table = table_in(words);
-    let runs = runs_in(words);
-    Task { table, runs }
+    let mut t = no_task();
+    t.table.facts = words[FACTS_AT] as usize;
+    t.table.actions = words[ACTIONS_AT] as usize;
+    t.table.limit = words[LIMIT_AT] as usize;
+    t.runs.many = words[MANY_AT] as usize;
+    copy_action_masks(words, NEEDS_AT, &mut t.table.needs);
+    copy_action_masks(words, ADDS_AT, &mut t.table.adds);
+    copy_action_masks(words, DELETES_AT, &mut t.table.deletes);
+    copy_run_masks(words, STARTS_AT, &mut t.runs.starts);
+    copy_run_masks(words, GOALS_AT, &mut t.runs.goals);
+    copy_counts(words, &mut t.runs.counts);
+    copy_steps(words, used_steps(words), &mut t.runs.steps);
+    t
 }

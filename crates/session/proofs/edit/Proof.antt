@@ -10,7 +10,7 @@ use Rattle.table.proofs.Formation.{told-formed, told-unformed, well-formed}
 use Rattle.table.proofs.Strides.{sessionPlaces-rows}
 use Rattle.table.specs.Refusals.{notWellFormed, notASession, notThere}
 use Rattle.table.specs.Tasks.{Shaped, WellFormed}
-use Rattle.session.proofs.CallLaws.{edit-malformed, edit-not-a-session, edit-outside, edits-refused, edits-done, inside-low}
+use Rattle.session.proofs.CallLaws.{edit-malformed, edit-not-a-session, edit-outside, edits-refused, edits-done, edited-low}
 use Rattle.session.proofs.edit.Statement.{statement}
 use Rattle.session.proofs.edit.Tie as tie
 
@@ -90,7 +90,7 @@ put-row-requires c κs =
       subst WellFormed (sym (c .before .before .set-cell .ensures))
           (edited-well (a .t) (a .e) (edited (a .t) (a .e)) (edited-exactly (a .t) (a .e) (well d) (inside g)) (well d) (inside g)),
       (
-        omega (arith, c .before .cell-fact .ensures, inside-low (a .t) (well d) (a .e .cell) (inside g)),
+        edited-low (a .t) (a .e) (well d) (inside g) (c .before .before .set-cell .ensures) (c .before .cell-fact .ensures),
         omega (arith, e .if2 .left, sessionPlaces-rows),
       ),
     )

@@ -5,6 +5,7 @@ use Rattle.table.proofs.Formation.{told-formed, told-unformed, well-formed}
 use Rattle.table.proofs.Strides.{sessionPlaces-rows}
 use Rattle.table.specs.Refusals.{notWellFormed, notASession}
 use Rattle.table.specs.Tasks.{Shaped, WellFormed}
+use Rattle.rows.proofs.TableLaws.{emptied-filled}
 use Rattle.session.proofs.CallLaws.{open-malformed, open-not-a-session, opens-refused, opens-opened}
 use Rattle.session.proofs.open.Statement.{statement}
 use Rattle.session.proofs.open.Tie as tie
@@ -13,8 +14,11 @@ use Rattle.session.proofs.open.Tie as tie
 abbrev start : tie.After-is-formed → tie.Start
 start c = c .before .before
 
+abbrev emptied : tie.After-fill → tie.After-empty-rows
+emptied c = c .before .before .before .before
+
 abbrev passed : tie.After-fill → tie.Else2
-passed c = c .before .before
+passed c = emptied c .before .before
 
 is-formed-requires : tie.Need-is-formed-requires
 is-formed-requires c κs = search needs
@@ -46,8 +50,15 @@ returns-2 c =
     (opens-refused (a .t) (a .table .now) notASession (omega arith)
     (open-not-a-session (a .t) (a .table .now) (well-formed (a .t) (well d)) (c .before .if2 .taken)))
 
+empty-rows-requires : tie.Need-empty-rows-requires
+empty-rows-requires c κs = omega (arith, c .before .if2 .left, sessionPlaces-rows)
+
 fill-requires : tie.Need-fill-requires
-fill-requires c κs = (well (c .before .before), omega (arith, c .before .if2 .left, sessionPlaces-rows))
+fill-requires c κs =
+    let e = c .before .before .before in
+    let d = e .before .before in
+    let empty = e .empty-rows .ensures in
+    (well (d .before), (omega (arith, empty .places, d .if2 .left, sessionPlaces-rows), λ f h. empty .rows f h tt))
 
 same-length : tie.Need-same-length
 same-length c = search needs
@@ -57,7 +68,7 @@ returns-3 c =
     let f = c .before .before in
     let d = passed f .before in
     let a = start (d .before) .args in
-    opens-opened (a .t) (a .table .now) (well-formed (a .t) (well d)) (passed f .if2 .left) _ (f .fill .ensures)
+    opens-opened (a .t) (a .table .now) (well-formed (a .t) (well d)) (passed f .if2 .left) _ (emptied-filled (a .t) (a .table .now) (emptied f .empty-rows .last .0) _ (emptied f .empty-rows .ensures) (f .fill .ensures))
 
 pub open-spec : {M : Type 1} → statement M
 open-spec =
@@ -68,6 +79,7 @@ open-spec =
     returns
     refusal-requires-2
     returns-2
+    empty-rows-requires
     fill-requires
     same-length
     returns-3)

@@ -1,10 +1,10 @@
 -- `search::conflict::actions_between` gathers the actions of the steps between two places. The invariant: those before i are in.
 use Prim.Native.Nat.{_+_, _*_, _≤_, _<_, _-_, max}
 use native.Mathlib.Omega.{arith}
-use lib.ListN.{length, getD}
-use Rattle.table.specs.Sizes.{maxActions, maxSteps}
+use lib.ListN.{getD}
+use Rattle.table.specs.Sizes.{maxActions, maxSteps, allSteps}
 use Rattle.table.specs.Strips.{Course}
-use Rattle.search.specs.Columns.{courseIn}
+use Rattle.search.specs.Columns.{columnIn, courseIn}
 use Rattle.search.specs.Gaps.{ActionsOf}
 use Rattle.search.proofs.ColumnLaws.{step-inside, step-read}
 use Rattle.search.proofs.ConflictLaws.{actions-none, actions-more, actions-end}
@@ -12,44 +12,45 @@ use Rattle.search.proofs.conflict.actions_between.Statement.{statement}
 use Rattle.search.proofs.conflict.actions_between.Tie as tie
 
 abbrev Inv-loop : tie.InvT-loop
-Inv-loop steps run start end from found₀ i₀ found i =
+Inv-loop col steps run start end from found₀ i₀ found i =
     (start ≤ i) × (i ≤ max start end) × ActionsOf (λ j. getD steps (maxSteps * run + j) 0) start i found
 
 abbrev μ-loop : tie.MeasureT-loop
-μ-loop steps run start end from found₀ i₀ found i = end - i
+μ-loop col steps run start end from found₀ i₀ found i = end - i
 
 -- where the call began, and the run
 abbrev begun : tie.At-loop Inv-loop μ-loop → tie.Start Inv-loop μ-loop
-begun c = c .before .before
+begun c = c .before
 
 abbrev run-of : tie.At-loop Inv-loop μ-loop → Course
-run-of c = courseIn (begun c .args .col) (begun c .args .steps .now) (begun c .args .run)
+run-of c = courseIn (columnIn (begun c .args .col .now)) (begun c .args .end) (begun c .args .steps .now) (begun c .args .run)
 
 -- the step is one of the run's, and an action
 inside : (c : tie.In-loop Inv-loop μ-loop) → c .before .loop .i < run-of (c .before) .count
-inside c = omega (arith, c .loop-test .taken, begun (c .before) .pre .1 .1)
+unfolding courseIn
+inside c = c .loop-test .taken
 
 action-here : (c : tie.In-loop Inv-loop μ-loop) → getD (begun (c .before) .args .steps .now) (maxSteps * begun (c .before) .args .run + c .before .loop .i) 0 < maxActions
 action-here c =
     let at = begun (c .before) in
-    step-read (at .args .col) (at .args .steps .now) (at .pre .0) (at .args .run) (at .pre .1 .0) (c .before .loop .i) (inside c)
+    step-read (columnIn (at .args .col .now)) (at .args .end) (at .args .steps .now) (at .args .run) (at .pre .0) (at .pre .1) (c .before .loop .i) (inside c)
 
-place-here : (c : tie.In-loop Inv-loop μ-loop) → maxSteps * begun (c .before) .args .run + c .before .loop .i < length (begun (c .before) .args .steps .now)
+place-here : (c : tie.In-loop Inv-loop μ-loop) → maxSteps * begun (c .before) .args .run + c .before .loop .i < allSteps
 place-here c =
     let at = begun (c .before) in
-    step-inside (at .args .col) (at .args .steps .now) (at .pre .0) (at .args .run) (at .pre .1 .0) (c .before .loop .i) (inside c)
+    step-inside (columnIn (at .args .col .now)) (at .args .end) (at .args .steps .now) (at .args .run) (at .pre .0) (at .pre .1) (c .before .loop .i) (inside c)
 
 mul-from : tie.Need-mul-from Inv-loop μ-loop
-mul-from c = omega (arith, c .before .pre .0 .runs-high, c .before .pre .1 .0)
+mul-from c = omega (arith, c .pre .0)
 
 loop-holds : tie.Need-loop-holds Inv-loop μ-loop
-loop-holds c = (omega arith, omega arith, actions-none (λ j. getD (c .before .args .steps .now) (maxSteps * c .before .args .run + j) 0) (c .before .args .start))
+loop-holds c = (omega arith, omega arith, actions-none (λ j. getD (c .args .steps .now) (maxSteps * c .args .run + j) 0) (c .args .start))
 
 add-a : tie.Need-add-a Inv-loop μ-loop
-add-a c = omega (arith, place-here c, begun (c .before) .pre .0 .steps-length)
+add-a c = omega (arith, place-here c)
 
-shared-slice-read-a : tie.Need-shared-slice-read-a Inv-loop μ-loop
-shared-slice-read-a c = place-here (c .before)
+element-copy-out-a : tie.Need-element-copy-out-a Inv-loop μ-loop
+element-copy-out-a c = place-here c
 
 cast-a : tie.Need-cast-a Inv-loop μ-loop
 cast-a c = omega (arith, action-here (c .before))
@@ -60,7 +61,7 @@ with-fact-requires c κs = tt
 add-i : tie.Need-add-i Inv-loop μ-loop
 add-i c =
     let here = c .before .before in
-    omega (arith, place-here here, begun (here .before) .pre .0 .steps-length)
+    omega (arith, place-here here)
 
 loop-less : tie.Need-loop-less Inv-loop μ-loop
 loop-less c = omega arith
@@ -94,7 +95,7 @@ actions-between-spec =
     mul-from
     loop-holds
     add-a
-    shared-slice-read-a
+    element-copy-out-a
     cast-a
     with-fact-requires
     add-i

@@ -4,34 +4,35 @@ use mathlib.Core.Bool.{not, _&&_}
 use mathlib.Core.Path.{_≡_, refl, subst}
 use Prim.Native.Nat.{_+_, _*_, _-_, _<_, _≤_}
 use lib.ListN.{getD}
+use borrow.Author.Needs.{needs}
 use Rattle.table.specs.Sizes.{maxActions, maxSteps}
 use Rattle.table.specs.Strips.{Course}
 use native.Mathlib.Omega.{arith}
-use Rattle.search.specs.Columns.{courseIn}
+use Rattle.search.specs.Columns.{columnIn, courseIn}
 use Rattle.search.specs.Gaps.{Gap, missing-at, nowhere}
 use Rattle.search.proofs.ColumnLaws.{step-inside, step-read, Walked, NoneBefore, Tells, walked-none, walked-more, none-first, none-next, none-right, tells-step, tells-goal}
 use Rattle.search.proofs.gap.first_gap.Statement.{statement}
 use Rattle.search.proofs.gap.first_gap.Tie as tie
 
 abbrev Inv-loop : tie.InvT-loop
-Inv-loop steps run s col count from present₀ i₀ present i = Walked col (courseIn col steps run) s present i × NoneBefore col (courseIn col steps run) s i
+Inv-loop col steps run count s from present₀ i₀ present i = Walked (columnIn col) (courseIn (columnIn col) count steps run) s present i × NoneBefore (columnIn col) (courseIn (columnIn col) count steps run) s i
 
 abbrev μ-loop : tie.MeasureT-loop
-μ-loop steps run s col count from present₀ i₀ present i = count - i
+μ-loop col steps run count s from present₀ i₀ present i = count - i
 
 -- where the call began, and where the turn did
 abbrev start : tie.At-loop Inv-loop μ-loop → tie.Start Inv-loop μ-loop
-start c = c .before .before .before .before
+start c = c .before .before .before
 
 abbrev at-loop : tie.After-needs-with Inv-loop μ-loop → tie.At-loop Inv-loop μ-loop
 at-loop c = c .before .before .before
 
 -- the run
 abbrev run-of : tie.At-loop Inv-loop μ-loop → Course
-run-of c = courseIn (start c .args .t1) (start c .args .steps .now) (start c .args .run)
+run-of c = courseIn (columnIn (start c .args .col .now)) (start c .args .count) (start c .args .steps .now) (start c .args .run)
 
 few-steps : (c : tie.At-loop Inv-loop μ-loop) → run-of c .count ≤ maxSteps
-few-steps c = start c .pre .0 .run (start c .args .run) (start c .pre .1) .count-high
+few-steps c = start c .pre .1 .count-high
 
 -- the step is one of the run's
 inside : (c : tie.In-loop Inv-loop μ-loop) → c .before .loop .i < run-of (c .before) .count
@@ -42,25 +43,22 @@ inside c = c .loop-test .taken
 action-here : (c : tie.In-loop Inv-loop μ-loop) → getD (start (c .before) .args .steps .now) (maxSteps * start (c .before) .args .run + c .before .loop .i) 0 < maxActions
 action-here c =
     let at = start (c .before) in
-    step-read (at .args .t1) (at .args .steps .now) (at .pre .0) (at .args .run) (at .pre .1) (c .before .loop .i) (inside c)
+    step-read (columnIn (at .args .col .now)) (at .args .count) (at .args .steps .now) (at .args .run) (at .pre .0) (at .pre .1) (c .before .loop .i) (inside c)
 
 -- the step's flag tells whether the fact is missing there
 tells-here : (c : tie.After-needs-with Inv-loop μ-loop)
-    → Tells (start (at-loop c) .args .t1) (run-of (at-loop c)) (start (at-loop c) .args .s) (at-loop c .loop .i) (c .needs-with .result && not (at-loop c .loop .present))
+    → Tells (columnIn (start (at-loop c) .args .col .now)) (run-of (at-loop c)) (start (at-loop c) .args .s) (at-loop c .loop .i) (c .needs-with .result && not (at-loop c .loop .present))
 unfolding courseIn
 tells-here c =
     let here = at-loop c in
     let a = start here .args in
-    tells-step (a .t1) (run-of here) (a .s) (here .loop .present) (here .loop .i) (here .loop .inv .0) (inside (c .before .before)) (c .needs-with .result) (c .needs-with .ensures)
-
-mul-count : tie.Need-mul-count Inv-loop μ-loop
-mul-count c = omega (arith, c .before .pre .0 .runs-high, c .before .pre .1)
-
-element-copy-out-count : tie.Need-element-copy-out-count Inv-loop μ-loop
-element-copy-out-count c = omega (arith, c .before .pre .0 .runs-high, c .before .pre .1)
+    tells-step (columnIn (a .col .now)) (run-of here) (a .s) (here .loop .present) (here .loop .i) (here .loop .inv .0) (inside (c .before .before)) (c .needs-with .result) (c .needs-with .ensures)
 
 mul-from : tie.Need-mul-from Inv-loop μ-loop
-mul-from c = omega (arith, c .before .before .pre .0 .runs-high, c .before .before .pre .1)
+mul-from c = omega (arith, c .pre .0)
+
+element-copy-out-contains : tie.Need-element-copy-out-contains Inv-loop μ-loop
+element-copy-out-contains c = search needs
 
 contains-requires : tie.Need-contains-requires Inv-loop μ-loop
 contains-requires c κs = tt
@@ -68,20 +66,19 @@ contains-requires c κs = tt
 loop-holds : tie.Need-loop-holds Inv-loop μ-loop
 unfolding courseIn
 loop-holds c =
-    let a = c .before .before .before .args in
-    let r = courseIn (a .t1) (a .steps .now) (a .run) in
-    (walked-none (a .t1) r (a .s) (c .contains .result) (c .contains .ensures), none-first (a .t1) r (a .s))
+    let a = c .before .before .args in
+    let r = courseIn (columnIn (a .col .now)) (a .count) (a .steps .now) (a .run) in
+    (walked-none (columnIn (a .col .now)) r (a .s) (c .contains .result) (c .contains .ensures), none-first (columnIn (a .col .now)) r (a .s))
 
 add-a : tie.Need-add-a Inv-loop μ-loop
 add-a c =
     let at = start (c .before) in
-    omega (arith, step-inside (at .args .t1) (at .args .steps .now) (at .pre .0) (at .args .run) (at .pre .1) (c .before .loop .i) (inside c), at .pre .0 .steps-length)
+    omega (arith, step-inside (columnIn (at .args .col .now)) (at .args .count) (at .args .steps .now) (at .args .run) (at .pre .0) (at .pre .1) (c .before .loop .i) (inside c))
 
-shared-slice-read-a : tie.Need-shared-slice-read-a Inv-loop μ-loop
-shared-slice-read-a c =
-    let here = c .before in
-    let at = start (here .before) in
-    step-inside (at .args .t1) (at .args .steps .now) (at .pre .0) (at .args .run) (at .pre .1) (here .before .loop .i) (inside here)
+element-copy-out-a : tie.Need-element-copy-out-a Inv-loop μ-loop
+element-copy-out-a c =
+    let at = start (c .before) in
+    step-inside (columnIn (at .args .col .now)) (at .args .count) (at .args .steps .now) (at .args .run) (at .pre .0) (at .pre .1) (c .before .loop .i) (inside c)
 
 cast-a : tie.Need-cast-a Inv-loop μ-loop
 cast-a c = omega (arith, action-here (c .before))
@@ -113,10 +110,13 @@ loop-again c =
     let present = deleted .before in
     let here = at-loop (present .before) in
     let a = start here .args in (
-      walked-more (a .t1) (run-of here) (a .s) (here .loop .present) (here .loop .i) (here .loop .inv .0) (inside (present .before .before .before))
+      walked-more (columnIn (a .col .now)) (run-of here) (a .s) (here .loop .present) (here .loop .i) (here .loop .inv .0) (inside (present .before .before .before))
           (deleted .deletes-with .result) (c .adds-with .result) (deleted .deletes-with .ensures) (c .adds-with .ensures),
-      none-next (a .t1) (run-of here) (a .s) (here .loop .i) _ (here .loop .inv .1) (tells-here (present .before)) (present .if1 .left),
+      none-next (columnIn (a .col .now)) (run-of here) (a .s) (here .loop .i) _ (here .loop .inv .1) (tells-here (present .before)) (present .if1 .left),
     )
+
+element-copy-out-contains-2 : tie.Need-element-copy-out-contains-2 Inv-loop μ-loop
+element-copy-out-contains-2 c = search needs
 
 contains-requires-2 : tie.Need-contains-requires-2 Inv-loop μ-loop
 contains-requires-2 c κs = tt
@@ -127,35 +127,35 @@ unfolding courseIn
 at-end c = omega (arith, c .before .loop .inv .0 .within, c .loop-test .left)
 
 tells-end : (c : tie.After-contains2 Inv-loop μ-loop)
-    → Tells (start (c .before .before) .args .t1) (run-of (c .before .before)) (start (c .before .before) .args .s) (c .before .before .loop .i)
-    (c .contains2 .result && not (c .before .before .loop .present))
+    → Tells (columnIn (start (c .before .before .before) .args .col .now)) (run-of (c .before .before .before)) (start (c .before .before .before) .args .s) (c .before .before .before .loop .i)
+    (c .contains2 .result && not (c .before .before .before .loop .present))
 unfolding courseIn
 tells-end c =
-    let here = c .before .before in
+    let here = c .before .before .before in
     let a = start here .args in
-    tells-goal (a .t1) (run-of here) (a .s) (here .loop .present) (here .loop .i) (here .loop .inv .0) (c .contains2 .result) (c .contains2 .ensures) (at-end (c .before))
+    tells-goal (columnIn (a .col .now)) (run-of here) (a .s) (here .loop .present) (here .loop .i) (here .loop .inv .0) (c .contains2 .result) (c .contains2 .ensures) (at-end (c .before .before))
 
 add-result : tie.Need-add-result Inv-loop μ-loop
 unfolding courseIn
-add-result c = omega (arith, few-steps (c .before .before .before))
+add-result c = omega (arith, few-steps (c .before .before .before .before))
 
 returns-2 : tie.Need-returns-2 Inv-loop μ-loop
 unfolding courseIn
 returns-2 c =
-    let here = c .before .before .before in
+    let here = c .before .before .before .before in
     let a = start here .args in
-    subst (Gap (a .t1) (run-of here) (a .s)) (at-end (c .before .before))
+    subst (Gap (columnIn (a .col .now)) (run-of here) (a .s)) (at-end (c .before .before .before))
     (missing-at (here .loop .inv .0 .within) (tells-end (c .before) .there (c .if2 .taken)))
 
 returns-3 : tie.Need-returns-3 Inv-loop μ-loop
 unfolding courseIn
 returns-3 c =
-    let here = c .before .before .before in
+    let here = c .before .before .before .before in
     let a = start here .args in
     nowhere refl
-    (none-right (a .t1) (run-of here) (a .s)
-    (subst (λ n. NoneBefore (a .t1) (run-of here) (a .s) (n + 1)) (at-end (c .before .before))
-    (none-next (a .t1) (run-of here) (a .s) (here .loop .i) _ (here .loop .inv .1) (tells-end (c .before)) (c .if2 .left))))
+    (none-right (columnIn (a .col .now)) (run-of here) (a .s)
+    (subst (λ n. NoneBefore (columnIn (a .col .now)) (run-of here) (a .s) (n + 1)) (at-end (c .before .before .before))
+    (none-next (columnIn (a .col .now)) (run-of here) (a .s) (here .loop .i) _ (here .loop .inv .1) (tells-end (c .before)) (c .if2 .left))))
 
 pub first-gap-spec : {M : Type 1} → statement M
 first-gap-spec =
@@ -163,13 +163,12 @@ first-gap-spec =
     (tie.spec
     Inv-loop
     μ-loop
-    mul-count
-    element-copy-out-count
     mul-from
+    element-copy-out-contains
     contains-requires
     loop-holds
     add-a
-    shared-slice-read-a
+    element-copy-out-a
     cast-a
     needs-with-requires
     returns
@@ -178,6 +177,7 @@ first-gap-spec =
     add-i
     loop-less
     loop-again
+    element-copy-out-contains-2
     contains-requires-2
     add-result
     returns-2

@@ -6,31 +6,31 @@ use Prim.Native.Nat.{ℕ, _+_, _-_, _≤_}
 use native.Mathlib.Omega.{arith}
 use lib.ListN.{length}
 use Rattle.table.specs.Sizes.{maxRow}
-use Rattle.search.specs.Columns.{KeepsIn, coursesIn}
+use Rattle.search.specs.Columns.{columnIn, KeepsIn, coursesIn}
 use Rattle.search.specs.Searching.{Rightness}
 use Rattle.search.proofs.LeastLaws.{nothing-allowed, nothing-out, fullest-allowed, short-none, short-found, longer-none, longer-than}
 use Rattle.search.proofs.least.some_shortest.Statement.{statement}
 use Rattle.search.proofs.least.some_shortest.Tie as tie
 
 abbrev Inv-loop : tie.InvT-loop
-Inv-loop col steps empty all left₀ left = (left ≤ maxRow + 1) × ((l : List ℕ) → KeepsIn col (coursesIn col steps) l → left ≤ length l)
+Inv-loop col counts steps empty all left₀ left = (left ≤ maxRow + 1) × ((l : List ℕ) → KeepsIn (columnIn col) (coursesIn (columnIn col) counts steps) l → left ≤ length l)
 
 abbrev μ-loop : tie.MeasureT-loop
-μ-loop col steps empty all left₀ left = maxRow + 1 - left
+μ-loop col counts steps empty all left₀ left = maxRow + 1 - left
 
 -- where the call began
 abbrev start : tie.After-nothing Inv-loop μ-loop → tie.Start Inv-loop μ-loop
-start c = c .before .before
+start c = c .before
 
 -- the fact is wrong as it stands
 wrong : (c : tie.Else1 Inv-loop μ-loop)
-    → Rightness (start (c .before .before) .args .col) (coursesIn (start (c .before .before) .args .col) (start (c .before .before) .args .steps .now))
+    → Rightness (columnIn (start (c .before .before) .args .col .now)) (coursesIn (columnIn (start (c .before .before) .args .col .now)) (start (c .before .before) .args .counts .now) (start (c .before .before) .args .steps .now))
     (c .before .before .nothing .result) false
 wrong c =
     let empty = c .before .before in
     let a = start empty .args in
-    let rs = coursesIn (a .col) (a .steps .now) in
-    subst (Rightness (a .col) rs (empty .nothing .result)) (c .if1 .left) (c .before .is-right .ensures)
+    let rs = coursesIn (columnIn (a .col .now)) (a .counts .now) (a .steps .now) in
+    subst (Rightness (columnIn (a .col .now)) rs (empty .nothing .result)) (c .if1 .left) (c .before .is-right .ensures)
 
 nothing-requires : tie.Need-nothing-requires Inv-loop μ-loop
 nothing-requires c κs = tt
@@ -42,9 +42,9 @@ returns : tie.Need-returns Inv-loop μ-loop
 returns c =
     let empty = c .before .before in
     let a = start empty .args in
-    let rs = coursesIn (a .col) (a .steps .now) in
-    short-none (a .col) rs (empty .nothing .result) (empty .nothing .ensures)
-    (subst (Rightness (a .col) rs (empty .nothing .result)) (c .if1 .taken) (c .before .is-right .ensures))
+    let rs = coursesIn (columnIn (a .col .now)) (a .counts .now) (a .steps .now) in
+    short-none (columnIn (a .col .now)) rs (empty .nothing .result) (empty .nothing .ensures)
+    (subst (Rightness (columnIn (a .col .now)) rs (empty .nothing .result)) (c .if1 .taken) (c .before .is-right .ensures))
 
 fullest-requires : tie.Need-fullest-requires Inv-loop μ-loop
 fullest-requires c κs = start (c .before .before) .pre .actions-high
@@ -54,16 +54,16 @@ loop-holds c =
     let failed = c .before in
     let empty = failed .before .before in
     let a = start empty .args in
-    let rs = coursesIn (a .col) (a .steps .now) in
-    (omega arith, longer-none (a .col) rs (empty .nothing .result) (wrong failed))
+    let rs = coursesIn (columnIn (a .col .now)) (a .counts .now) (a .steps .now) in
+    (omega arith, longer-none (columnIn (a .col .now)) rs (empty .nothing .result) (wrong failed))
 
 test-requires : tie.Need-test-requires Inv-loop μ-loop
 test-requires c κs =
     let all = c .before .before .fullest in
     let empty = c .before .before .before .before .before in
     let none = empty .nothing in
-    let col = start empty .args .col in
-    let rs = coursesIn col (start empty .args .steps .now) in
+    let col = columnIn (start empty .args .col .now) in
+    let rs = coursesIn col (start empty .args .counts .now) (start empty .args .steps .now) in
     (start empty .pre, (nothing-allowed col rs (none .result) (none .ensures), (fullest-allowed col (all .result) (all .ensures), nothing-out col rs (none .result) (none .ensures))))
 
 returns-2 : tie.Need-returns-2 Inv-loop μ-loop
@@ -74,8 +74,8 @@ returns-2 c =
     let empty = failed .before .before in
     let all = here .before .fullest in
     let a = start empty .args in
-    let rs = coursesIn (a .col) (a .steps .now) in
-    short-found (a .col) rs (empty .nothing .result) (all .result) (here .loop .left) (empty .nothing .ensures) (all .ensures) (wrong failed)
+    let rs = coursesIn (columnIn (a .col .now)) (a .counts .now) (a .steps .now) in
+    short-found (columnIn (a .col .now)) rs (empty .nothing .result) (all .result) (here .loop .left) (empty .nothing .ensures) (all .ensures) (wrong failed)
     (found .result .any) (found .result .choice) (c .if2 .taken) (omega arith) (here .loop .inv .1) (found .ensures)
 
 add-left : tie.Need-add-left Inv-loop μ-loop
@@ -92,9 +92,9 @@ loop-again c =
     let empty = failed .before .before in
     let all = here .before .fullest in
     let a = start empty .args in
-    let rs = coursesIn (a .col) (a .steps .now) in (
+    let rs = coursesIn (columnIn (a .col .now)) (a .counts .now) (a .steps .now) in (
       omega arith,
-      longer-than (a .col) rs (empty .nothing .result) (all .result) (here .loop .left) (empty .nothing .ensures) (all .ensures)
+      longer-than (columnIn (a .col .now)) rs (empty .nothing .result) (all .result) (here .loop .left) (empty .nothing .ensures) (all .ensures)
           (wrong failed) (found .result .any) (found .result .choice) (c .if2 .left) (found .ensures),
     )
 

@@ -3,35 +3,36 @@
 use mathlib.Core.Bool.{not, _&&_}
 use mathlib.Core.Path.{_≡_, refl, subst}
 use Prim.Native.Nat.{_+_, _*_, _-_, _<_, _≤_}
-use lib.ListN.{length, getD}
-use Rattle.table.specs.Sizes.{maxActions, maxSteps}
+use lib.ListN.{getD}
+use borrow.Author.Needs.{needs}
+use Rattle.table.specs.Sizes.{maxActions, maxSteps, allSteps}
 use Rattle.table.specs.Strips.{Course}
 use native.Mathlib.Omega.{arith}
-use Rattle.search.specs.Columns.{courseIn}
+use Rattle.search.specs.Columns.{columnIn, courseIn}
 use Rattle.search.proofs.ColumnLaws.{step-inside, step-read, Walked, Tells, walked-none, walked-more, none-first, tells-step, tells-goal, PlaceSo, no-place, place-next, place-few, place-end}
 use Rattle.search.proofs.narrow.narrowest_gap.Statement.{statement}
 use Rattle.search.proofs.narrow.narrowest_gap.Tie as tie
 
 abbrev Inv-loop : tie.InvT-loop
-Inv-loop steps run s out col count from present₀ open₀ best₀ i₀ present «open» best i =
-    Walked col (courseIn col steps run) s present i × PlaceSo col (courseIn col steps run) s best i
+Inv-loop col steps run count s out from present₀ open₀ best₀ i₀ present «open» best i =
+    Walked (columnIn col) (courseIn (columnIn col) count steps run) s present i × PlaceSo (columnIn col) (courseIn (columnIn col) count steps run) s best i
 
 abbrev μ-loop : tie.MeasureT-loop
-μ-loop steps run s out col count from present₀ open₀ best₀ i₀ present «open» best i = count - i
+μ-loop col steps run count s out from present₀ open₀ best₀ i₀ present «open» best i = count - i
 
 -- where the turn began, and where the loop was entered from
 abbrev at-loop : tie.After-needs-with Inv-loop μ-loop → tie.At-loop Inv-loop μ-loop
 at-loop c = c .before .before .before
 
 abbrev start : tie.At-loop Inv-loop μ-loop → tie.Start Inv-loop μ-loop
-start c = c .before .before .before .before .before
+start c = c .before .before .before .before
 
 -- the run
 abbrev run-of : tie.At-loop Inv-loop μ-loop → Course
-run-of c = courseIn (start c .args .t1) (start c .args .steps .now) (start c .args .run)
+run-of c = courseIn (columnIn (start c .args .col .now)) (start c .args .count) (start c .args .steps .now) (start c .args .run)
 
 few-steps : (c : tie.At-loop Inv-loop μ-loop) → run-of c .count ≤ maxSteps
-few-steps c = start c .pre .0 .run (start c .args .run) (start c .pre .1) .count-high
+few-steps c = start c .pre .1 .count-high
 
 -- where the need was read, and where the place was noted
 abbrev needed : tie.After-narrower Inv-loop μ-loop → tie.After-needs-with Inv-loop μ-loop
@@ -48,40 +49,37 @@ inside c = c .loop-test .taken
 action-here : (c : tie.In-loop Inv-loop μ-loop) → getD (start (c .before) .args .steps .now) (maxSteps * start (c .before) .args .run + c .before .loop .i) 0 < maxActions
 action-here c =
     let at = start (c .before) in
-    step-read (at .args .t1) (at .args .steps .now) (at .pre .0) (at .args .run) (at .pre .1) (c .before .loop .i) (inside c)
+    step-read (columnIn (at .args .col .now)) (at .args .count) (at .args .steps .now) (at .args .run) (at .pre .0) (at .pre .1) (c .before .loop .i) (inside c)
 
-place-inside : (c : tie.In-loop Inv-loop μ-loop) → maxSteps * start (c .before) .args .run + c .before .loop .i < length (start (c .before) .args .steps .now)
+place-inside : (c : tie.In-loop Inv-loop μ-loop) → maxSteps * start (c .before) .args .run + c .before .loop .i < allSteps
 place-inside c =
     let at = start (c .before) in
-    step-inside (at .args .t1) (at .args .steps .now) (at .pre .0) (at .args .run) (at .pre .1) (c .before .loop .i) (inside c)
+    step-inside (columnIn (at .args .col .now)) (at .args .count) (at .args .steps .now) (at .args .run) (at .pre .0) (at .pre .1) (c .before .loop .i) (inside c)
 
 -- the step's flag tells whether the fact is missing there
 tells-here : (c : tie.After-needs-with Inv-loop μ-loop)
-    → Tells (start (at-loop c) .args .t1) (run-of (at-loop c)) (start (at-loop c) .args .s) (at-loop c .loop .i) (c .needs-with .result && not (at-loop c .loop .present))
+    → Tells (columnIn (start (at-loop c) .args .col .now)) (run-of (at-loop c)) (start (at-loop c) .args .s) (at-loop c .loop .i) (c .needs-with .result && not (at-loop c .loop .present))
 unfolding courseIn
 tells-here c =
     let here = at-loop c in
     let a = start here .args in
-    tells-step (a .t1) (run-of here) (a .s) (here .loop .present) (here .loop .i) (here .loop .inv .0) (inside (c .before .before)) (c .needs-with .result) (c .needs-with .ensures)
+    tells-step (columnIn (a .col .now)) (run-of here) (a .s) (here .loop .present) (here .loop .i) (here .loop .inv .0) (inside (c .before .before)) (c .needs-with .result) (c .needs-with .ensures)
 
 -- the place chosen with this step
 place-here : (c : tie.After-narrower Inv-loop μ-loop)
-    → PlaceSo (start (at-loop (needed c)) .args .t1) (run-of (at-loop (needed c))) (start (at-loop (needed c)) .args .s) (c .narrower .result) (at-loop (needed c) .loop .i + 1)
+    → PlaceSo (columnIn (start (at-loop (needed c)) .args .col .now)) (run-of (at-loop (needed c))) (start (at-loop (needed c)) .args .s) (c .narrower .result) (at-loop (needed c) .loop .i + 1)
 unfolding courseIn
 place-here c =
     let here = at-loop (needed c) in
     let a = start here .args in
-    place-next (a .t1) (run-of here) (a .s) (here .loop .best) (c .narrower .result) (here .loop .i) _ (here .loop .inv .0 .within) (tells-here (needed c))
+    place-next (columnIn (a .col .now)) (run-of here) (a .s) (here .loop .best) (c .narrower .result) (here .loop .i) _ (here .loop .inv .0 .within) (tells-here (needed c))
     (here .loop .inv .1) (c .narrower .ensures)
 
-mul-count : tie.Need-mul-count Inv-loop μ-loop
-mul-count c = omega (arith, c .before .pre .0 .runs-high, c .before .pre .1)
-
-element-copy-out-count : tie.Need-element-copy-out-count Inv-loop μ-loop
-element-copy-out-count c = omega (arith, c .before .pre .0 .runs-high, c .before .pre .1)
-
 mul-from : tie.Need-mul-from Inv-loop μ-loop
-mul-from c = omega (arith, c .before .before .pre .0 .runs-high, c .before .before .pre .1)
+mul-from c = omega (arith, c .pre .0)
+
+element-copy-out-contains : tie.Need-element-copy-out-contains Inv-loop μ-loop
+element-copy-out-contains c = search needs
 
 contains-requires : tie.Need-contains-requires Inv-loop μ-loop
 contains-requires c κs = tt
@@ -89,25 +87,25 @@ contains-requires c κs = tt
 nothing-requires : tie.Need-nothing-requires Inv-loop μ-loop
 nothing-requires c κs = tt
 
-add-t17 : tie.Need-add-t17 Inv-loop μ-loop
+add-t19 : tie.Need-add-t19 Inv-loop μ-loop
 unfolding courseIn
-add-t17 c =
-    let at = c .before .before .before .before in
-    omega (arith, at .pre .0 .run (at .args .run) (at .pre .1) .count-high)
+add-t19 c =
+    let at = c .before .before .before in
+    omega (arith, at .pre .1 .count-high)
 
 loop-holds : tie.Need-loop-holds Inv-loop μ-loop
 unfolding courseIn
 loop-holds c =
     let first = c .before .contains in
-    let a = c .before .before .before .before .args in
-    let r = courseIn (a .t1) (a .steps .now) (a .run) in
-    (walked-none (a .t1) r (a .s) (first .result) (first .ensures), no-place refl (omega arith) (none-first (a .t1) r (a .s)))
+    let a = c .before .before .before .args in
+    let r = courseIn (columnIn (a .col .now)) (a .count) (a .steps .now) (a .run) in
+    (walked-none (columnIn (a .col .now)) r (a .s) (first .result) (first .ensures), no-place refl (omega arith) (none-first (columnIn (a .col .now)) r (a .s)))
 
 add-a : tie.Need-add-a Inv-loop μ-loop
-add-a c = omega (arith, place-inside c, start (c .before) .pre .0 .steps-length)
+add-a c = omega (arith, place-inside c)
 
-shared-slice-read-a : tie.Need-shared-slice-read-a Inv-loop μ-loop
-shared-slice-read-a c = place-inside (c .before)
+element-copy-out-a : tie.Need-element-copy-out-a Inv-loop μ-loop
+element-copy-out-a c = place-inside c
 
 cast-a : tie.Need-cast-a Inv-loop μ-loop
 cast-a c = omega (arith, action-here (c .before))
@@ -129,7 +127,7 @@ returns c =
     let chosen = c .before .before in
     let here = at-loop (needed chosen) in
     let a = start here .args in
-    place-few (a .t1) (run-of here) (a .s) (chosen .narrower .result) (here .loop .i + 1) (place-here chosen) (c .if1 .taken)
+    place-few (columnIn (a .col .now)) (run-of here) (a .s) (chosen .narrower .result) (here .loop .i + 1) (place-here chosen) (c .if1 .taken)
 
 deletes-with-requires : tie.Need-deletes-with-requires Inv-loop μ-loop
 deletes-with-requires c κs = action-here (needed (noted c) .before .before)
@@ -155,10 +153,13 @@ loop-again c =
     let chosen = noted (deleted .before) in
     let here = at-loop (needed chosen) in
     let a = start here .args in (
-      walked-more (a .t1) (run-of here) (a .s) (here .loop .present) (here .loop .i) (here .loop .inv .0) (inside (needed chosen .before .before))
+      walked-more (columnIn (a .col .now)) (run-of here) (a .s) (here .loop .present) (here .loop .i) (here .loop .inv .0) (inside (needed chosen .before .before))
           (deleted .deletes-with .result) (c .adds-with .result) (deleted .deletes-with .ensures) (c .adds-with .ensures),
       place-here chosen,
     )
+
+element-copy-out-contains-2 : tie.Need-element-copy-out-contains-2 Inv-loop μ-loop
+element-copy-out-contains-2 c = search needs
 
 contains-requires-2 : tie.Need-contains-requires-2 Inv-loop μ-loop
 contains-requires-2 c κs = tt
@@ -173,11 +174,11 @@ returns-2 : tie.Need-returns-2 Inv-loop μ-loop
 unfolding courseIn
 returns-2 c =
     let wanted = c .before .before .contains2 in
-    let at = c .before .before .before .before in
-    let col = start at .args .t1 in
+    let at = c .before .before .before .before .before in
+    let col = columnIn (start at .args .col .now) in
     let s = start at .args .s in
     let r = run-of at in
-    let last : at .loop .i ≡ r .count = omega (arith, at .loop .inv .0 .within, c .before .before .before .loop-test .left) in
+    let last : at .loop .i ≡ r .count = omega (arith, at .loop .inv .0 .within, c .before .before .before .before .loop-test .left) in
     let walked = subst (Walked col r s (at .loop .present)) last (at .loop .inv .0) in
     place-end col r s (c .narrower2 .result) (r .count + 1) refl
     (place-next col r s (at .loop .best) (c .narrower2 .result) (r .count) _ (omega arith)
@@ -190,15 +191,14 @@ narrowest-gap-spec =
     (tie.spec
     Inv-loop
     μ-loop
-    mul-count
-    element-copy-out-count
     mul-from
+    element-copy-out-contains
     contains-requires
     nothing-requires
-    add-t17
+    add-t19
     loop-holds
     add-a
-    shared-slice-read-a
+    element-copy-out-a
     cast-a
     needs-with-requires
     needed-requires
@@ -211,6 +211,7 @@ narrowest-gap-spec =
     add-i
     loop-less
     loop-again
+    element-copy-out-contains-2
     contains-requires-2
     without-requires-2
     narrower-requires-2

@@ -48,7 +48,7 @@ loop-again c =
 returns : tie.Need-returns Inv-loop μ-loop
 returns c =
     let sets = c .before .before .args .t1 in
-    gathers-end sets (c .before .before .args .f) (c .before .loop .a) (c .before .loop .m) (search needs) (omega arith) (c .before .loop .inv .1)
+    gathers-end sets (c .before .before .args .f) (c .before .loop .a) (c .before .loop .m) (omega arith) (c .before .loop .inv .1)
 
 pub actions-having-spec : {M : Type 1} → statement M
 actions-having-spec =

@@ -34,7 +34,6 @@ returns c =
         runs = refl;
         start = start .runs-having .ensures;
         goal = c .runs-having2 .ensures;
-        counts = refl;
       },
     )
 

@@ -1,28 +1,41 @@
 -- `search::view::fullest` meets its contract. Assumes nothing.
 use mathlib.Core.Path.{_∙_}
 use borrow.Author.Needs.{needs}
+use Rattle.search.specs.Columns.{columnIn}
 use Rattle.search.proofs.ViewLaws.{fullest-is}
 use Rattle.search.proofs.view.fullest.Statement.{statement}
 use Rattle.search.proofs.view.fullest.Tie as tie
 
+element-copy-out-below-mask : tie.Need-element-copy-out-below-mask
+element-copy-out-below-mask c = search needs
+
 below-mask-requires : tie.Need-below-mask-requires
 below-mask-requires c κs = search needs
+
+element-copy-out-overlap : tie.Need-element-copy-out-overlap
+element-copy-out-overlap c = search needs
 
 overlap-requires : tie.Need-overlap-requires
 overlap-requires c κs = search needs
 
+element-copy-out-remove : tie.Need-element-copy-out-remove
+element-copy-out-remove c = search needs
+
 remove-requires : tie.Need-remove-requires
 remove-requires c κs = search needs
+
+element-copy-out-overlap-2 : tie.Need-element-copy-out-overlap-2
+element-copy-out-overlap-2 c = search needs
 
 overlap-requires-2 : tie.Need-overlap-requires-2
 overlap-requires-2 c κs = search needs
 
 returns : tie.Need-returns
 returns c =
-    let all = c .before .before .before in
-    fullest-is (all .before .args .col) (all .before .pre) _
-    (c .before .before .overlap .ensures ∙ rw (all .below-mask .ensures))
-    (c .before .remove .ensures ∙ rw (all .below-mask .ensures)) (c .overlap2 .ensures ∙ rw (all .below-mask .ensures))
+    let all = c .before .before .before .before .before .before in
+    fullest-is (columnIn (all .before .before .args .col .now)) (all .before .before .pre) _
+    (c .before .before .before .before .overlap .ensures ∙ rw (all .below-mask .ensures))
+    (c .before .before .remove .ensures ∙ rw (all .below-mask .ensures)) (c .overlap2 .ensures ∙ rw (all .below-mask .ensures))
 
 pub fullest-spec : {M : Type 1} → statement M
-fullest-spec = tie.close (tie.spec below-mask-requires overlap-requires remove-requires overlap-requires-2 returns)
+fullest-spec = tie.close (tie.spec element-copy-out-below-mask below-mask-requires element-copy-out-overlap overlap-requires element-copy-out-remove remove-requires element-copy-out-overlap-2 overlap-requires-2 returns)

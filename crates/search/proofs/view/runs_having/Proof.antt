@@ -1,19 +1,19 @@
--- `search::view::runs_having` meets its contract: the mask has the runs passed whose set has the fact. Assumes nothing.
-use mathlib.Core.Path.{subst}
-use Prim.Native.Nat.{ℕ, _≤_, _-_}
+-- `search::view::runs_having` meets its contract: the mask has the runs whose set has the fact. Assumes nothing.
+use Prim.Native.Nat.{_≤_, _-_}
 use native.Mathlib.Omega.{arith}
 use borrow.Author.Needs.{needs}
 use lib.ListN.{getD}
-use Rattle.search.proofs.ViewLaws.{gathers-none, gathers-more}
+use Rattle.table.specs.Sizes.{maxRuns}
+use Rattle.search.proofs.ViewLaws.{gathers-none, gathers-more, gathers-end}
 use Rattle.search.specs.Views.{GathersBelow}
 use Rattle.search.proofs.view.runs_having.Statement.{statement}
 use Rattle.search.proofs.view.runs_having.Tie as tie
 
 abbrev Inv-loop : tie.InvT-loop
-Inv-loop many f sets m₀ i₀ m i = (i ≤ many) × GathersBelow (λ a. getD sets a 0) f i m
+Inv-loop f sets m₀ i₀ m i = (i ≤ maxRuns) × GathersBelow (λ a. getD sets a 0) f i m
 
 abbrev μ-loop : tie.MeasureT-loop
-μ-loop many f sets m₀ i₀ m i = many - i
+μ-loop f sets m₀ i₀ m i = maxRuns - i
 
 loop-holds : tie.Need-loop-holds Inv-loop μ-loop
 loop-holds c = (omega arith, gathers-none (λ a. getD (c .args .t1) a 0) (c .args .f))
@@ -47,9 +47,8 @@ loop-again c =
 
 returns : tie.Need-returns Inv-loop μ-loop
 returns c =
-    let at = c .before in
-    let all = at .before .args in
-    subst (λ (n : ℕ). GathersBelow (λ a. getD (all .t1) a 0) (all .f) n (at .loop .m)) (omega arith) (at .loop .inv .1)
+    let sets = c .before .before .args .t1 in
+    gathers-end sets (c .before .before .args .f) (c .before .loop .i) (c .before .loop .m) (omega arith) (c .before .loop .inv .1)
 
 pub runs-having-spec : {M : Type 1} → statement M
 runs-having-spec =

@@ -24,7 +24,7 @@ start c =
     d .before .before .before
 
 returns : tie.Need-returns
-returns c = (λ j. lent c .are-within .ensures j && c .are-within2 .ensures j) ∙ actions-pass (start (lent c) .args .t1 .table)
+returns c = (λ j. lent c .are-within .ensures j && c .are-within2 .ensures j) ∙ actions-pass (start (lent c) .args .t1)
 
 pub are-actions-formed-spec : {M : Type 1} → statement M
 are-actions-formed-spec = tie.close (tie.spec are-within-requires are-within-requires-2 returns)

@@ -4,30 +4,30 @@ use Prim.Native.Nat.{_*_, _<_, _≤_, _-_}
 use borrow.Author.Needs.{needs}
 use native.Mathlib.Omega.{arith}
 use Rattle.table.specs.Counting.{everyBelow}
+use Rattle.table.specs.Passes.{ofRuns}
 use Rattle.table.specs.Sizes.{maxSteps}
 use Rattle.table.specs.Tasks.{countOf, stepFormed}
 use Rattle.table.specs.declared.Task.{Task}
 use Rattle.table.proofs.CountingLaws.{everyBelow-none, at-end}
-use Rattle.table.proofs.Formation.{counts-high, counts-none}
 use Rattle.table.proofs.PassLaws.{run-pass, rest-pass}
 use Rattle.table.proofs.formed.are_steps_formed.Statement.{statement}
 use Rattle.table.proofs.formed.are_steps_formed.Tie as tie
 
 abbrev Inv-loop : tie.InvT-loop
-Inv-loop t actions many counts good₀ i₀ good i = (i ≤ many) × (good ≡ everyBelow (stepFormed t) (maxSteps * i))
+Inv-loop actions runs small many counts good₀ i₀ good i = (i ≤ many) × (good ≡ everyBelow (stepFormed (ofRuns runs actions)) (maxSteps * i))
 
 abbrev μ-loop : tie.MeasureT-loop
-μ-loop t actions many counts good₀ i₀ good i = many - i
+μ-loop actions runs small many counts good₀ i₀ good i = many - i
 
 cast-actions : tie.Need-cast-actions Inv-loop μ-loop
 cast-actions c = search needs
 
 -- at the head of the loop: the task, and that the run of a turn has at most 64 steps
 abbrev task : tie.At-loop Inv-loop μ-loop → Task
-task c = c .before .before .args .t1
+task c = let a = c .before .before .args in ofRuns (a .t1) (a .actions)
 
 high : (c : tie.At-loop Inv-loop μ-loop) → c .loop .i < task c .runs .many → countOf (task c .runs) (c .loop .i) ≤ maxSteps
-high c l = counts-high (task c) (c .before .before .pre .1 .1) (c .loop .i) (omega (arith, c .before .before .pre .0))
+high c l = let pre = c .before .before .pre in pre .1 .1 .high (c .loop .i) (omega (arith, pre .0))
 
 loop-holds : tie.Need-loop-holds Inv-loop μ-loop
 loop-holds c = (omega arith, everyBelow-none _)
@@ -80,7 +80,7 @@ returns c =
     let at = c .before .before .before .before in
     let t = task at in
     let pre = at .before .before .pre in
-    rest-pass t (pre .0) (counts-none t (pre .1 .1)) (c .are-below3 .ensures)
+    rest-pass t (pre .0) (pre .1 .1 .none) (c .are-below3 .ensures)
     (at-end (λ i. everyBelow (stepFormed t) (maxSteps * i)) (at .loop .i) (t .runs .many) (at .loop .inv .0) (omega arith) (at .loop .inv .1))
 
 pub are-steps-formed-spec : {M : Type 1} → statement M

@@ -6,9 +6,9 @@ use borrow.Author.Needs.{needs}
 use borrow.Author.Tests.{not-true, not-false}
 use Rattle.table.specs.Counting.{everyBelow}
 use Rattle.table.specs.Sizes.{maxRuns}
-use Rattle.table.specs.Tasks.{sizesFormed, runFormed, formed}
+use Rattle.table.specs.Tasks.{sizesFormed, runFormed, stepFits, stepFormed, formed}
 use Rattle.table.specs.declared.Task.{Task}
-use Rattle.table.proofs.Formation.{sizes-in}
+use Rattle.table.proofs.Formation.{sizes-in, counts-fit}
 use Rattle.table.proofs.formed.is_formed.Statement.{statement}
 use Rattle.table.proofs.formed.is_formed.Tie as tie
 
@@ -46,10 +46,10 @@ are-steps-formed-requires : tie.Need-are-steps-formed-requires
 are-steps-formed-requires c κs =
     let tested = c .before .before .before in
     let sizes = sizes-in (task tested) (sized tested) in
-    (sizes .6, (sizes .3, ranged (c .before)))
+    (sizes .6, (sizes .3, counts-fit (task tested) (ranged (c .before))))
 
 returns-3 : tie.Need-returns-3
-unfolding formed
+unfolding formed stepFormed stepFits
 returns-3 c =
     let ranges = c .before .before in
     rw (sized (ranges .before .before), ranged ranges, c .before .are-actions-formed .ensures, c .are-steps-formed .ensures)

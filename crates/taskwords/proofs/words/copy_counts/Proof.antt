@@ -1,23 +1,24 @@
+-- `copy_counts` fills its room word by word.
 use mathlib.Core.Path.{refl}
-use Rattle.taskwords.proofs.PartLaws.{part-length, part-at}
--- `counts_at` fills the array word by word.
 use borrow.Author.Needs.{needs}
 use native.Mathlib.Omega.{arith}
-use Prim.Native.Nat.{_+_, _-_}
-use lib.ListN.{getD}
+use Prim.Native.Nat.{_+_, _-_, _≤_}
+use lib.ListN.{length, getD}
 use Rattle.table.specs.Sizes.{maxRuns}
+use Rattle.taskwords.specs.Words.{countsAt}
 use Rattle.taskwords.proofs.FillingLaws.{Filling, filling-none, filling-more, filling-all}
-use Rattle.taskwords.proofs.words.counts_at.Statement.{statement}
-use Rattle.taskwords.proofs.words.counts_at.Tie as tie
+use Rattle.taskwords.proofs.PartLaws.{part-length, part-at}
+use Rattle.taskwords.proofs.words.copy_counts.Statement.{statement}
+use Rattle.taskwords.proofs.words.copy_counts.Tie as tie
 
 abbrev Inv-loop : tie.InvT-loop
-Inv-loop words at counts₀ i₀ counts i = Filling (λ k. getD words (at + k) 0) maxRuns counts i
+Inv-loop words counts₀ i₀ counts i = Filling (λ k. getD words (countsAt + k) 0) maxRuns counts i
 
 abbrev μ-loop : tie.MeasureT-loop
-μ-loop words at counts₀ i₀ counts i = maxRuns - i
+μ-loop words counts₀ i₀ counts i = maxRuns - i
 
 loop-holds : tie.Need-loop-holds Inv-loop μ-loop
-loop-holds c = filling-none _ _ _ (search needs)
+loop-holds c = filling-none _ _ _ (c .pre .1)
 
 add-counts : tie.Need-add-counts Inv-loop μ-loop
 add-counts c = search needs
@@ -31,8 +32,8 @@ shared-slice-read-counts c = search needs
 mul-counts-2 : tie.Need-mul-counts-2 Inv-loop μ-loop
 mul-counts-2 c = search needs
 
-array-write-counts : tie.Need-array-write-counts Inv-loop μ-loop
-array-write-counts c = search needs
+element-write-counts : tie.Need-element-write-counts Inv-loop μ-loop
+element-write-counts c = search needs
 
 add-i : tie.Need-add-i Inv-loop μ-loop
 add-i c = omega arith
@@ -45,12 +46,12 @@ loop-again c = filling-more _ (c .before .before .loop .inv) _ (c .before .loop-
 
 returns : tie.Need-returns Inv-loop μ-loop
 returns c =
-    let s = c .before .before in
-    filling-all _ (c .before .loop .inv) _ (c .loop-test .left) (part-length _ _ _ (s .pre))
-    (part-at _ _ _ (s .pre))
+    let ws = c .before .before .args .words .now in
+    let room : countsAt + maxRuns ≤ length ws = omega arith in
+    filling-all _ (c .before .loop .inv) _ (c .loop-test .left) (part-length ws countsAt maxRuns room) (part-at ws countsAt maxRuns room)
 
-pub counts-at-spec : {M : Type 1} → statement M
-counts-at-spec =
+pub copy-counts-spec : {M : Type 1} → statement M
+copy-counts-spec =
     tie.close
     (tie.spec
     Inv-loop
@@ -60,7 +61,7 @@ counts-at-spec =
     mul-counts
     shared-slice-read-counts
     mul-counts-2
-    array-write-counts
+    element-write-counts
     add-i
     loop-less
     loop-again
