@@ -23,7 +23,7 @@ use Rattle.table.proofs.FlagLaws.{by-order}
 use Rattle.table.proofs.JoinLaws.{join-for}
 use Rattle.table.proofs.Strides.{sessionPlaces-rows}
 use Rattle.rows.specs.Copies.{pasted}
-use Rattle.rows.specs.Tables.{rowAt, verdictAt, RightRows, Stored, RowPut, RowsPut, Emptied, Filled, Rewritten, Readable}
+use Rattle.rows.specs.Tables.{rowAt, verdictAt, RightRows, Stored, RowPut, RowsPut, Emptied, Filled, Rewritten}
 use Rattle.rows.proofs.CopyLaws.{pasted-length, pasted-before, pasted-after, pasted-at}
 
 -- ---- where the numbers of a row stand
@@ -175,9 +175,6 @@ filled-stored t s after e b = record { places = b .places ∙ e; rows = λ f h. 
 
 module _ (t : Task) where
   -- ---- what right rows say
-
-  pub right-readable : (s : List ℕ) (n : ℕ) → n ≤ maxFacts → allRows ≤ length s → RightRows t s → Readable s n
-  right-readable s n h l rows = record { places = l; firsts = λ f k. right-first t f (rowAt s f) (rows f (omega arith)) }
 
   -- The rows joined are the verdict over all permitted lists: each fact can be diagnosed by itself.
   pub right-within : WellFormed t → (s : List ℕ) → RightRows t s

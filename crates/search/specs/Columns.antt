@@ -1,6 +1,5 @@
 -- One fact's column as a table and runs of the meaning: every fact of it is that one fact.
 use mathlib.Core.List.{List}
-use mathlib.Core.Path.{_≡_}
 use Prim.Native.Nat.{ℕ, suc, _+_, _*_, _<_, _≤_}
 use lib.ListN.{getD}
 use Rattle.facts.specs.Sets.{has}

@@ -28,7 +28,7 @@ pub(crate) fn reach(
     requires { ⌜ ColumnFormed (columnIn (now col)) (now counts) (now steps) ⌝ }
     requires { ⌜ Allowed (columnIn (now col)) want ⌝ }
     requires { ⌜ Apart s out ⌝ }
-    ensures { λ r. ⌜ Reached (columnIn (now (col .entry))) (coursesIn (columnIn (now (col .entry))) (now (counts .entry)) (now (steps .entry))) s out want (length (listOf ((columnIn (now (col .entry))) .fact) s) + left) (r .any) (r .choice) ⌝ }
+    ensures { λ r. ⌜ Reached (columnIn (now (col .entry))) (coursesIn (columnIn (now (col .entry))) (now (counts .entry)) (now (steps .entry))) s out want (length (listOf (columnIn (now (col .entry)) .fact) s) + left) (r .any) (r .choice) ⌝ }
 {
     let mut passed = s;
     for n in 0..left {

@@ -6,7 +6,7 @@ use choices::Choice;
 use table::ALL_STEPS;
 use table::STEPS;
 ghost use mathlib.Core.Path.{_≡_};
-ghost use Prim.Native.Nat.{_+_, _-_, _<_, _≤_, min};
+ghost use Prim.Native.Nat.{_+_, _-_, _<_, min};
 ghost use Rattle.table.specs.Sizes.{maxRuns};
 ghost use Rattle.search.specs.Columns.{columnIn, RunFormed, courseIn};
 ghost use Rattle.search.specs.Gaps.{LastDelete, ConflictAt, ActionsOf};

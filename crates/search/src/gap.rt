@@ -20,21 +20,21 @@ ghost use Rattle.search.specs.Gaps.{Gap};
 // in registers.
 pub(crate) fn needs_with(col: &[u64; CELLS], s: Choice, a: usize) -> bool
     requires { ⌜ a < maxActions ⌝ }
-    ensures { λ r. ⌜ r ≡ cellsWith (columnIn (now (col .entry))) s .needs a ((columnIn (now (col .entry))) .fact) ⌝ }
+    ensures { λ r. ⌜ r ≡ cellsWith (columnIn (now (col .entry))) s .needs a (columnIn (now (col .entry)) .fact) ⌝ }
 {
     facts::contains(facts::remove(col[NEEDS], s.needs), a)
 }
 
 pub(crate) fn adds_with(col: &[u64; CELLS], s: Choice, a: usize) -> bool
     requires { ⌜ a < maxActions ⌝ }
-    ensures { λ r. ⌜ r ≡ cellsWith (columnIn (now (col .entry))) s .adds a ((columnIn (now (col .entry))) .fact) ⌝ }
+    ensures { λ r. ⌜ r ≡ cellsWith (columnIn (now (col .entry))) s .adds a (columnIn (now (col .entry)) .fact) ⌝ }
 {
     facts::contains(facts::join(col[ADDS], s.adds), a)
 }
 
 pub(crate) fn deletes_with(col: &[u64; CELLS], s: Choice, a: usize) -> bool
     requires { ⌜ a < maxActions ⌝ }
-    ensures { λ r. ⌜ r ≡ cellsWith (columnIn (now (col .entry))) s .deletes a ((columnIn (now (col .entry))) .fact) ⌝ }
+    ensures { λ r. ⌜ r ≡ cellsWith (columnIn (now (col .entry))) s .deletes a (columnIn (now (col .entry)) .fact) ⌝ }
 {
     facts::contains(facts::remove(col[DELETES], s.deletes), a)
 }

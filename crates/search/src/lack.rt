@@ -62,7 +62,7 @@ pub(crate) fn with_run(
     best: Found,
 ) -> Found
     requires { ⌜ ColumnFormed (columnIn (now col)) (now counts) (now steps) ⌝ }
-    requires { ⌜ run < (columnIn (now col)) .runs ⌝ }
+    requires { ⌜ run < columnIn (now col) .runs ⌝ }
     requires { ⌜ LackingBelow (columnIn (now col)) (coursesIn (columnIn (now col)) (now counts) (now steps)) s out want run (best .any) (best .choice) ⌝ }
     ensures { λ r. ⌜ LackingBelow (columnIn (now (col .entry))) (coursesIn (columnIn (now (col .entry))) (now (counts .entry)) (now (steps .entry))) s out want (run + 1) (r .any) (r .choice) ⌝ }
 {

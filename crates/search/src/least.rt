@@ -57,8 +57,8 @@ pub(crate) fn earlier(
     code: usize,
 ) -> Found
     requires { ⌜ ColumnFormed (columnIn (now col)) (now counts) (now steps) ⌝ }
-    requires { ⌜ KeepsIn (columnIn (now col)) (coursesIn (columnIn (now col)) (now counts) (now steps)) (listOf ((columnIn (now col)) .fact) best) ⌝ }
-    ensures { λ r. ⌜ SomeOf ((columnIn (now (col .entry))) .fact) (Earlier (columnIn (now (col .entry))) (coursesIn (columnIn (now (col .entry))) (now (counts .entry)) (now (steps .entry))) best from code) (r .any) (r .choice) ⌝ }
+    requires { ⌜ KeepsIn (columnIn (now col)) (coursesIn (columnIn (now col)) (now counts) (now steps)) (listOf (columnIn (now col) .fact) best) ⌝ }
+    ensures { λ r. ⌜ SomeOf (columnIn (now (col .entry)) .fact) (Earlier (columnIn (now (col .entry))) (coursesIn (columnIn (now (col .entry))) (now (counts .entry)) (now (steps .entry))) best from code) (r .any) (r .choice) ⌝ }
 {
     let passed = choices::below(from);
     let s = choices::shared(best, passed);
@@ -78,7 +78,7 @@ pub(crate) fn first_of(
 ) -> Choice
     requires { ⌜ ColumnFormed (columnIn (now col)) (now counts) (now steps) ⌝ }
     requires { ⌜ Short (columnIn (now col)) (coursesIn (columnIn (now col)) (now counts) (now steps)) true some ⌝ }
-    ensures { λ r. ⌜ First (KeepsIn (columnIn (now (col .entry))) (coursesIn (columnIn (now (col .entry))) (now (counts .entry)) (now (steps .entry)))) (listOf ((columnIn (now (col .entry))) .fact) r) ⌝ }
+    ensures { λ r. ⌜ First (KeepsIn (columnIn (now (col .entry))) (coursesIn (columnIn (now (col .entry))) (now (counts .entry)) (now (steps .entry)))) (listOf (columnIn (now (col .entry)) .fact) r) ⌝ }
 {
     let mut best = some;
     let mut from = 0;

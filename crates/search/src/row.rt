@@ -82,7 +82,7 @@ fn row_of_choice(f: usize, s: Choice) -> Filling
 // and 7 if that does.
 fn row_in(col: &[u64; CELLS], counts: &[usize; RUNS], steps: &[u8; ALL_STEPS]) -> Filling
     requires { ⌜ ColumnFormed (columnIn (now col)) (now counts) (now steps) ⌝ }
-    requires { ⌜ (columnIn (now col)) .fact < maxFacts ⌝ }
+    requires { ⌜ columnIn (now col) .fact < maxFacts ⌝ }
     ensures { λ r. ⌜ RowFor (KeepsIn (columnIn (now (col .entry))) (coursesIn (columnIn (now (col .entry))) (now (counts .entry)) (now (steps .entry)))) (r .places) ⌝ }
 {
     let found = least::shortest(col, counts, steps);
@@ -98,7 +98,7 @@ fn row_in(col: &[u64; CELLS], counts: &[usize; RUNS], steps: &[u8; ALL_STEPS]) -
 
 pub fn row(col: &[u64; CELLS], counts: &[usize; RUNS], steps: &[u8; ALL_STEPS]) -> [u16; ROW_PLACES]
     requires { ⌜ ColumnFormed (columnIn (now col)) (now counts) (now steps) ⌝ }
-    requires { ⌜ (columnIn (now col)) .fact < maxFacts ⌝ }
+    requires { ⌜ columnIn (now col) .fact < maxFacts ⌝ }
     ensures { λ r. ⌜ RowFor (KeepsIn (columnIn (now (col .entry))) (coursesIn (columnIn (now (col .entry))) (now (counts .entry)) (now (steps .entry)))) r ⌝ }
 {
     let row = row_in(col, counts, steps);

@@ -31,7 +31,7 @@ pub(crate) fn test(
     requires { ⌜ Allowed (columnIn (now col)) s ⌝ }
     requires { ⌜ Allowed (columnIn (now col)) want ⌝ }
     requires { ⌜ Apart s out ⌝ }
-    ensures { λ r. ⌜ SomeOf ((columnIn (now (col .entry))) .fact) (Among (columnIn (now (col .entry))) (coursesIn (columnIn (now (col .entry))) (now (counts .entry)) (now (steps .entry))) s out want (length (listOf ((columnIn (now (col .entry))) .fact) s) + left)) (r .any) (r .choice) ⌝ }
+    ensures { λ r. ⌜ SomeOf (columnIn (now (col .entry)) .fact) (Among (columnIn (now (col .entry))) (coursesIn (columnIn (now (col .entry))) (now (counts .entry)) (now (steps .entry))) s out want (length (listOf (columnIn (now (col .entry)) .fact) s) + left)) (r .any) (r .choice) ⌝ }
 {
     if lack::is_complete(col, counts, steps, s, want) {
         return Found {
@@ -70,7 +70,7 @@ pub(crate) fn branch(
     requires { ⌜ Apart s out ⌝ }
     requires { ⌜ Complete (columnIn (now col)) (coursesIn (columnIn (now col)) (now counts) (now steps)) s want false ⌝ }
     requires { ⌜ 0 < left ⌝ }
-    ensures { λ r. ⌜ SomeOf ((columnIn (now (col .entry))) .fact) (Among (columnIn (now (col .entry))) (coursesIn (columnIn (now (col .entry))) (now (counts .entry)) (now (steps .entry))) s out want (length (listOf ((columnIn (now (col .entry))) .fact) s) + left)) (r .any) (r .choice) ⌝ }
+    ensures { λ r. ⌜ SomeOf (columnIn (now (col .entry)) .fact) (Among (columnIn (now (col .entry))) (coursesIn (columnIn (now (col .entry))) (now (counts .entry)) (now (steps .entry))) s out want (length (listOf (columnIn (now (col .entry)) .fact) s) + left)) (r .any) (r .choice) ⌝ }
 {
     let q = lack::lacking(col, counts, steps, s, out, want).choice;
     let mut out = out;

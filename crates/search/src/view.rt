@@ -68,7 +68,7 @@ pub fn column_of(t: Task, f: usize) -> [u64; CELLS]
 
 // Every permitted repair of the column's fact: if these do not keep it right, nothing does.
 pub(crate) fn fullest(col: &[u64; CELLS]) -> Choice
-    requires { ⌜ (columnIn (now col)) .actions ≤ maxActions ⌝ }
+    requires { ⌜ columnIn (now col) .actions ≤ maxActions ⌝ }
     ensures { λ r. ⌜ Fullest (columnIn (now (col .entry))) r ⌝ }
 {
     let all = facts::below_mask(col[ACTION_COUNT] as usize);

@@ -2,7 +2,6 @@
 use Prim.Native.Nat.{_-_, _≤_}
 use native.Mathlib.Omega.{arith}
 use borrow.Author.Needs.{needs}
-use Rattle.table.specs.Strips.{Right}
 use lib.ListN.{getD}
 use Rattle.search.specs.Columns.{columnIn, courseIn}
 use Rattle.search.proofs.SearchLaws.{RightBelow, right-next, gap-right, gap-missing, missing-wrong}

@@ -1,5 +1,5 @@
 -- `table::formed::are_actions_formed` meets its contract: no set has a fact from F on, and those of unused actions none at all. Assumes nothing.
-use mathlib.Core.Path.{_≡_, _∙_}
+use mathlib.Core.Path.{_∙_}
 use mathlib.Core.Bool.{_&&_}
 use borrow.Author.Needs.{needs}
 use Rattle.table.proofs.PassLaws.{actions-pass}
