@@ -27,7 +27,8 @@ fn wrong_in(t: Task, run: usize) -> u64
     facts::join(wrong, facts::remove(goals[run], state))
 }
 
-// The facts that are wrong in some run.
+// The facts that are wrong in some run. The first run stands before the loop, so that the compiler keeps this function apart and
+// what it copies of the task is gone before the search begins (02, request 5; docs/DECISIONS.md, "Stack").
 pub fn wrong_facts(t: Task) -> u64
     requires { ⌜ WellFormed t ⌝ }
     ensures { λ r. ⌜ WrongFacts t r ⌝ }

@@ -26,6 +26,7 @@ pub fn open(t: Task, table: &mut [u16]) -> Reply
         // A longer table is refused too.
         return table::refusal(refusals::NOT_A_SESSION);
     }
+    // Before the task is handed on: so the compiler sees that it needs no copy of it (docs/DECISIONS.md, "Stack").
     rows::empty_rows(table);
     rows::fill(t, table);
     Reply {
