@@ -87,6 +87,7 @@ pub record AlikeAt (f : ℕ) (c d : Cells) : Type 0 where
   pub needs : (a : ℕ) → c .needs a f ≡ d .needs a f
   pub adds : (a : ℕ) → c .adds a f ≡ d .adds a f
   pub deletes : (a : ℕ) → c .deletes a f ≡ d .deletes a f
+  pub locks : (a : ℕ) → c .locks a f ≡ d .locks a f
 
 pub alike-sym : (f : ℕ) (c d : Cells) → AlikeAt f c d → AlikeAt f d c
 alike-sym f c d same = record {
@@ -95,6 +96,7 @@ alike-sym f c d same = record {
   needs = λ a. sym (same .needs a);
   adds = λ a. sym (same .adds a);
   deletes = λ a. sym (same .deletes a);
+  locks = λ a. sym (same .locks a);
 }
 
 module _ (f : ℕ) (c d : Cells) (same : AlikeAt f c d) where
@@ -104,7 +106,7 @@ module _ (f : ℕ) (c d : Cells) (same : AlikeAt f c d) where
   alike-permitted n own =
       let a = actionOf n in
       subst (λ (g : ℕ). permits c g (kindOf n) a ≡ permits d g (kindOf n) a) (sym own)
-      (λ j. same .inside j && ltb a (same .actions j) && byKind (kindOf n) (same .deletes a j) (not (same .adds a j)) (same .needs a j))
+      (λ j. same .inside j && ltb a (same .actions j) && byKind (kindOf n) (same .deletes a j) (not (same .adds a j)) (same .needs a j && not (same .locks a j)))
 
   alike-repaired : (r : Course) (R : ℕ → Bool) → SameAt f r (repaired c R) (repaired d R)
   alike-repaired r R = record {

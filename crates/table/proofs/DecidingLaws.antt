@@ -46,8 +46,10 @@ all-right-is c rs f h = all-everyBelow (λ i. isRight c (rs .course i) f) (rs .m
 is-shaped : (t : Task) → isShaped t ≡ true → Shaped t
 unfolding isShaped
 is-shaped t h =
-    let p = both (eqb (length (t .table .needs)) maxActions && eqb (length (t .table .adds)) maxActions && eqb (length (t .table .deletes)) maxActions) _ h in
-    let q = both _ _ (p .0) in
+    let p =
+    both (eqb (length (t .table .needs)) maxActions && eqb (length (t .table .adds)) maxActions && eqb (length (t .table .deletes)) maxActions && eqb (length (t .table .locks)) maxActions) _ h in
+    let o = both _ _ (p .0) in
+    let q = both _ _ (o .0) in
     let r = both _ _ (q .0) in
     let u = both _ _ (p .1) in
     let v = both _ _ (u .0) in
@@ -56,6 +58,7 @@ is-shaped t h =
       needs = eqb-true _ _ (r .0);
       adds = eqb-true _ _ (r .1);
       deletes = eqb-true _ _ (q .1);
+      locks = eqb-true _ _ (o .1);
       starts = eqb-true _ _ (w .0);
       goals = eqb-true _ _ (w .1);
       counts = eqb-true _ _ (v .1);

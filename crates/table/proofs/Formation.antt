@@ -1,19 +1,19 @@
 -- When a task is well formed: the test of specs/Tasks and its record of named parts say the same, and what the proofs read off the record.
 -- Assumes nothing.
-use mathlib.Core.Bool.{Bool, true, false, not, _&&_, _||_, cond}
-use mathlib.Core.Path.{_≡_, sym, ap, _∙_}
+use mathlib.Core.Bool.{Bool, true, false, not, _&&_, _||_, cond, true≢false}
+use mathlib.Core.Path.{_≡_, refl, sym, ap, _∙_}
 use Prim.Native.Nat.{ℕ, _+_, _*_, _/_, _%_, _<_, _≤_}
 use native.Mathlib.Omega.{arith}
 use lib.Dec.{eqb, leb, ltb}
 use lib.ListN.{getD, List·getD-eq-default}
 use borrow.Author.Tests.{ltb-true, leb-true, eqb-true, lt-ltb, le-ltb, le-leb, eq-eqb, not-true, not-false}
-use Rattle.facts.specs.Sets.{has, within}
-use Rattle.facts.proofs.Laws.{has-empty, within-has, has-within}
+use Rattle.facts.specs.Sets.{has, removed, within}
+use Rattle.facts.proofs.Laws.{has-empty, has-removed, same-sets, within-has, has-within}
 use Rattle.table.specs.Counting.{everyBelow}
 use Rattle.table.specs.Passes.{CountsFit}
 use Rattle.table.specs.Sizes.{maxFacts, maxActions, maxRuns, maxSteps, allSteps, maxLimit}
 use Rattle.table.specs.Repairs.{byKind, dropDelete, addEffect, dropNeed}
-use Rattle.table.specs.Tasks.{maskOf, startOf, goalOf, countOf, stepOf, sizesFormed, maskFormed, actionFormed, runFits, runFormed, stepFits, stepFormed, formed, Shaped, WellFormed}
+use Rattle.table.specs.Tasks.{cellsOf, maskOf, startOf, goalOf, countOf, stepOf, sizesFormed, maskFormed, actionFormed, locksFormed, runFits, runFormed, stepFits, stepFormed, formed, Shaped, WellFormed}
 use Rattle.table.specs.declared.Table.{Table}
 use Rattle.table.specs.declared.Task.{Task}
 use Rattle.table.proofs.CountingLaws.{everyBelow-all, all-everyBelow}
@@ -65,6 +65,33 @@ masks-in t s h k a =
     by-order a maxActions
     (λ l. mask-in (t .table) a (maskOf (t .table) k a) (mask-formed (t .table) k a (everyBelow-all (actionFormed (t .table)) maxActions h a l)))
     (mask-past t s k a)
+
+-- ---- locks
+
+-- nothing is left of a without b exactly if each number of a is in b
+none-left : (a b : ℕ) → eqb (removed a b) 0 ≡ true → (f : ℕ) → has a f ≡ true → has b f ≡ true
+none-left a b h f e = pick (has b f) (sym (has-removed a b f) ∙ ap (λ m. has m f) (eqb-true (removed a b) 0 h) ∙ has-empty f)
+  where
+    pick : (x : Bool) → (has a f && not x) ≡ false → x ≡ true
+    pick true g = refl
+    pick false g = absurd (true≢false (rw e at g))
+
+left-none : (a b : ℕ) → ((f : ℕ) → has a f ≡ true → has b f ≡ true) → eqb (removed a b) 0 ≡ true
+left-none a b h = eq-eqb (removed a b) 0 (same-sets (removed a b) 0 (λ f. has-removed a b f ∙ pick (has a f) (has b f) (h f) ∙ sym (has-empty f)))
+  where
+    pick : (x y : Bool) → (x ≡ true → y ≡ true) → (x && not y) ≡ false
+    pick true y g = rw (g refl)
+    pick false y g = refl
+
+locks-in : (t : Task) → Shaped t → everyBelow (locksFormed (t .table .needs) (t .table .locks)) maxActions ≡ true → (a f : ℕ)
+    → cellsOf (t .table) .locks a f ≡ true → cellsOf (t .table) .needs a f ≡ true
+unfolding cellsOf locksFormed
+locks-in t s h a f =
+    by-order a maxActions
+    (λ l. none-left (getD (t .table .locks) a 0) (getD (t .table .needs) a 0) (everyBelow-all (locksFormed (t .table .needs) (t .table .locks)) maxActions h a l) f)
+    (λ l e.
+    let past : getD (t .table .locks) a 0 ≡ 0 = List·getD-eq-default (t .table .locks) 0 (omega (arith, s .locks)) in
+    absurd (true≢false (sym e ∙ ap (λ m. has m f) past ∙ has-empty f)))
 
 -- ---- the test gives the named parts
 
@@ -167,21 +194,24 @@ steps-in t s h i j small =
     let past : countOf (t .runs) i ≡ 0 = List·getD-eq-default (t .runs .counts) 0 (omega (arith, s .counts)) in
     (λ k. absurd (omega arith), λ k. e))
 
--- the four parts of the test
+-- the five parts of the test
 parts : (t : Task)
     → formed t ≡ true
     → (sizesFormed t ≡ true)
     × (everyBelow (runFormed t) maxRuns ≡ true)
     × (everyBelow (actionFormed (t .table)) maxActions ≡ true)
+    × (everyBelow (locksFormed (t .table .needs) (t .table .locks)) maxActions ≡ true)
     × (everyBelow (stepFormed t) allSteps ≡ true)
 unfolding formed
 parts t h =
     let runs = everyBelow (runFormed t) maxRuns in
     let actions = everyBelow (actionFormed (t .table)) maxActions in
-    let p = both (sizesFormed t && runs && actions) (everyBelow (stepFormed t) allSteps) h in
-    let q = both (sizesFormed t && runs) actions (p .0) in
+    let locks = everyBelow (locksFormed (t .table .needs) (t .table .locks)) maxActions in
+    let p = both (sizesFormed t && runs && actions && locks) (everyBelow (stepFormed t) allSteps) h in
+    let o = both (sizesFormed t && runs && actions) locks (p .0) in
+    let q = both (sizesFormed t && runs) actions (o .0) in
     let r = both (sizesFormed t) runs (q .0) in
-    (r .0, r .1, q .1, p .1)
+    (r .0, r .1, q .1, o .1, p .1)
 
 pub formed-well : (t : Task) → Shaped t → formed t ≡ true → WellFormed t
 unfolding MaskIn RunIn StepIn
@@ -189,7 +219,7 @@ formed-well t s h =
     let p = parts t h in
     let sizes = sizes-in t (p .0) in
     let run = runs-in t s (p .1) in
-    let step = steps-in t s (p .3) in
+    let step = steps-in t s (p .4) in
     record {
       shaped = s;
       facts-low = sizes .0;
@@ -201,6 +231,7 @@ formed-well t s h =
       many-high = sizes .6;
       count-high = λ i. run i .2;
       inside = λ k a. masks-in t s (p .2) k a .0;
+      locks-needs = locks-in t s (p .3);
       start-inside = λ i. run i .0;
       goal-inside = λ i. run i .1;
       steps-below = λ i j l. step i j (omega (arith, run i .2)) .0 l;
@@ -222,6 +253,23 @@ step-below t w i j small =
 
 pub step-lt : (t : Task) → WellFormed t → (i j : ℕ) → j < maxSteps → stepOf (t .runs) i j < maxActions
 step-lt t w i j small = omega (arith, step-below t w i j small, w .actions-high)
+
+-- a lock is on a need, and so of a fact and an action of the task
+pub locks-inside : (t : Task) → WellFormed t → (a f : ℕ) → t .table .facts ≤ f → has (getD (t .table .locks) a 0) f ≡ false
+unfolding cellsOf
+locks-inside t w a f h = pick (has (getD (t .table .locks) a 0) f) (w .locks-needs a f)
+  where
+    pick : (b : Bool) → (b ≡ true → has (getD (t .table .needs) a 0) f ≡ true) → b ≡ false
+    pick true g = absurd (true≢false (sym (g refl) ∙ w .inside dropNeed a f h))
+    pick false g = refl
+
+pub locks-unused : (t : Task) → WellFormed t → (a : ℕ) → t .table .actions ≤ a → getD (t .table .locks) a 0 ≡ 0
+unfolding cellsOf
+locks-unused t w a h = same-sets (getD (t .table .locks) a 0) 0 (λ f. pick f (has (getD (t .table .locks) a 0) f) (w .locks-needs a f) ∙ sym (has-empty f))
+  where
+    pick : (f : ℕ) (b : Bool) → (b ≡ true → has (getD (t .table .needs) a 0) f ≡ true) → b ≡ false
+    pick f true g = absurd (true≢false (sym (g refl) ∙ ap (λ m. has m f) (w .actions-unused dropNeed a h) ∙ has-empty f))
+    pick f false g = refl
 
 -- ---- the named parts give the test
 
@@ -252,7 +300,7 @@ step-formed t w p =
     (λ l. rw (le-ltb j (countOf (t .runs) i) l) (eq-eqb (getD (t .runs .steps) p 0) 0 (sym at ∙ w .steps-unused i j l (omega arith))))
 
 pub well-formed : (t : Task) → WellFormed t → formed t ≡ true
-unfolding formed sizesFormed actionFormed maskFormed
+unfolding formed sizesFormed actionFormed maskFormed locksFormed cellsOf
 well-formed t w =
     let F = t .table .facts in
     let A = t .table .actions in
@@ -262,10 +310,13 @@ well-formed t w =
     (and-both _ _
     (and-both _ _
     (and-both _ _
+    (and-both _ _
     (and-both _ _ (and-both _ _ (lt-ltb 0 F (w .facts-low)) (le-leb F maxFacts (w .facts-high))) (and-both _ _ (lt-ltb 0 A (w .actions-low)) (le-leb A maxActions (w .actions-high))))
     (and-both _ _ (le-leb (t .table .limit) maxLimit (w .limit-high)) (and-both _ _ (lt-ltb 0 (t .runs .many) (w .many-low)) (le-leb (t .runs .many) maxRuns (w .many-high)))))
     (all-everyBelow (runFormed t) maxRuns (λ i l. run-formed t w i)))
     (all-everyBelow (actionFormed (t .table)) maxActions (λ a l. and-both _ _ (and-both _ _ (mask dropNeed a) (mask addEffect a)) (mask dropDelete a))))
+    (all-everyBelow (locksFormed (t .table .needs) (t .table .locks)) maxActions
+    (λ a l. left-none (getD (t .table .locks) a 0) (getD (t .table .needs) a 0) (w .locks-needs a))))
     (all-everyBelow (stepFormed t) allSteps (λ p l. step-formed t w p))
 
 -- ---- what a caller knows after `if !is_formed(t) { return .. }`: past it, and in it

@@ -1,4 +1,4 @@
--- What other crates cite of `table`: the laws of flags, counts and gathered lists, of the order of lists, of runs, repairs
+-- What other crates cite of `table`: the laws of flags, counts and gathered lists, of the order of lists, of runs, repairs, locks
 -- and the answer, of tasks, of repair numbers, and of what is given into lent room. And the worked examples, for a reader.
 pub mod FlagLaws
 pub mod RefusalLaws
@@ -11,6 +11,7 @@ pub mod OrderLaws
 pub mod RunLaws
 pub mod RepairLaws
 pub mod AnswerLaws
+pub mod LockLaws
 pub mod PublishedLaws
 pub mod JoinLaws
 pub mod Formation

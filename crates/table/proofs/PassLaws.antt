@@ -33,6 +33,11 @@ unfolding joined
 joined-sets every x y z n =
     within-joined every (bitOr (bitOr x y) z) n ∙ ap (λ b. within every n && b) (within-joined (bitOr x y) z n ∙ ap (λ b. b && within z n) (within-joined x y n))
 
+-- what is joined is empty exactly if each of the two is
+pub joined-none : (every x : ℕ) → eqb (bitOr every x) 0 ≡ (eqb every 0 && eqb x 0)
+unfolding joined
+joined-none every x = sym (within-none (bitOr every x)) ∙ within-joined every x 0 ∙ (λ j. within-none every j && within-none x j)
+
 -- one test of three sets, and of each by itself
 each-set : (l w₁ w₂ w₃ z₁ z₂ z₃ : Bool)
     → (w₁ && w₂ && w₃ && (l || z₁ && z₂ && z₃)) ≡ (w₁ && (l || z₁) && (w₂ && (l || z₂)) && (w₃ && (l || z₃)))

@@ -59,12 +59,12 @@ module _ (c : Cells) where
   permits-published : (f k a : ℕ) → permits c f k a ≡ true → permitsPublished c f k a ≡ true
   unfolding permits permitsPublished
   permits-published f k a h =
-      and-both (inside f a) (byKind k (c .deletes a f) true (c .needs a f))
+      and-both (inside f a) (byKind k (c .deletes a f) true (c .needs a f && not (c .locks a f)))
       (and-left (inside f a) (repairable c f k a) h)
       (more (eqb k dropDelete) (eqb k addEffect) (and-right (inside f a) _ h))
     where
-      more : (x y : Bool) → cond x (c .deletes a f) (cond y (not (c .adds a f)) (c .needs a f)) ≡ true
-          → cond x (c .deletes a f) (cond y true (c .needs a f)) ≡ true
+      more : (x y : Bool) → cond x (c .deletes a f) (cond y (not (c .adds a f)) (c .needs a f && not (c .locks a f))) ≡ true
+          → cond x (c .deletes a f) (cond y true (c .needs a f && not (c .locks a f))) ≡ true
       more true y p = p
       more false true p = refl
       more false false p = p

@@ -1,5 +1,5 @@
 -- Laws of repairs: a fact is touched only by the repairs whose numbers name it, and more repairs keep a fact right where fewer do.
-use mathlib.Core.Bool.{Bool, true, false, not, _&&_, _||_, and-true, and-false, or-false}
+use mathlib.Core.Bool.{Bool, true, false, not, _&&_, _||_, and-true, and-false, and-comm, or-false}
 use mathlib.Core.List.{List, []}
 use mathlib.Core.Path.{_≡_, refl, sym, ap, _∙_}
 use Prim.Native.Nat.{ℕ, _<_}
@@ -101,7 +101,7 @@ module _ (c : Cells) (f a : ℕ) where
   pub repairable-add : repairable c f addEffect a ≡ not (c .adds a f)
   repairable-add = refl
 
-  pub repairable-need : repairable c f dropNeed a ≡ c .needs a f
+  pub repairable-need : repairable c f dropNeed a ≡ (c .needs a f && not (c .locks a f))
   repairable-need = refl
 
 -- Applying a set of repairs leaves the cells that it does not name.
@@ -109,8 +109,12 @@ pub repaired-repairable : (c : Cells) (R : ℕ → Bool) (f k a : ℕ) → k < k
     → repairable (repaired c R) f k a ≡ (repairable c f k a && not (chosen R f k a))
 repaired-repairable c R f k a =
     kind-cases (λ j. repairable (repaired c R) f j a ≡ (repairable c f j a && not (chosen R f j a))) refl
-    (not-or (c .adds a f) (chosen R f addEffect a)) refl k
+    (not-or (c .adds a f) (chosen R f addEffect a)) (exchanged (c .needs a f) (not (chosen R f dropNeed a)) (not (c .locks a f))) k
   where
+    exchanged : (x y z : Bool) → (x && y && z) ≡ (x && z && y)
+    exchanged true y z = and-comm y z
+    exchanged false y z = refl
+
     not-or : (x y : Bool) → not (x || y) ≡ (not x && not y)
     not-or true y = refl
     not-or false y = refl

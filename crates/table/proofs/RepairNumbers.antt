@@ -1,17 +1,13 @@
 -- The number of a repair and back (document 01, "The model and its run"), both ways round; what a permitted number names. Assumes nothing.
-use mathlib.Core.Bool.{Bool, true, false, not, _&&_, cond, Bool·beq}
+use mathlib.Core.Bool.{Bool, true, false, _&&_, cond}
 use mathlib.Core.Path.{_≡_, refl, ap}
 use Prim.Native.Nat.{ℕ, zero, suc, _≤_, _<_}
 use native.Mathlib.Omega.{arith}
 use lib.Dec.{eqb, ltb}
-use lib.ListN.{getD}
 use borrow.Author.Tests.{eqb-true, ltb-true, lt-ltb, le-ltb}
-use Rattle.facts.specs.Sets.{has}
 use Rattle.table.specs.Sizes.{maxFacts, maxActions, kinds, unused}
 use Rattle.table.specs.Strips.{Cells}
 use Rattle.table.specs.Repairs.{dropDelete, addEffect, dropNeed, byKind, numberOf, factOf, kindOf, actionOf, numbered, repairable, permits, permitted}
-use Rattle.table.specs.Tasks.{cellsOf, maskOf}
-use Rattle.table.specs.declared.Table.{Table}
 use Rattle.table.proofs.FlagLaws.{both, and-both}
 
 -- ---- the number and back
@@ -69,35 +65,6 @@ permitted-unused c hc = rw (le-ltb (factOf unused) (c .facts) (omega arith))
 pub permitted-number : (c : Cells) (f k a : ℕ) → k < kinds → a < maxActions → permitted c (numberOf f k a) ≡ permits c f k a
 unfolding permitted
 permitted-number c f k a hk ha = rw (fact-back f k a hk ha, kind-back f k a hk ha, action-back f k a hk ha)
-
--- ---- a permitted repair, read off the mask of its kind
-
--- a delete or a need that is present, an add that is absent
-permits-kind : (d a n f k : ℕ) → not (Bool·beq (has (byKind k d a n) f) (eqb k addEffect)) ≡ byKind k (has d f) (not (has a f)) (has n f)
-permits-kind d a n f k = pick (eqb k dropDelete) (eqb k addEffect) refl refl
-  where
-    present : (b : Bool) → not (Bool·beq b false) ≡ b
-    present true = refl
-    present false = refl
-
-    absent : (b : Bool) → not (Bool·beq b true) ≡ not b
-    absent true = refl
-    absent false = refl
-
-    pick : (p q : Bool) → eqb k dropDelete ≡ p → eqb k addEffect ≡ q
-        → not (Bool·beq (has (cond p d (cond q a n)) f) q) ≡ cond p (has d f) (cond q (not (has a f)) (has n f))
-    pick true true e g = absurd (omega (arith, eqb-true k dropDelete e, eqb-true k addEffect g))
-    pick true false e g = present (has d f)
-    pick false true e g = absent (has a f)
-    pick false false e g = present (has n f)
-
-pub permitted-mask : (t : Table) (n : ℕ)
-    → (ltb (factOf n) (t .facts) && ltb (actionOf n) (t .actions) && not (Bool·beq (has (maskOf t (kindOf n) (actionOf n)) (factOf n)) (eqb (kindOf n) addEffect)))
-    ≡ permitted (cellsOf t) n
-unfolding permitted permits cellsOf
-permitted-mask t n =
-    ap (λ (b : Bool). ltb (factOf n) (t .facts) && ltb (actionOf n) (t .actions) && b)
-    (permits-kind (getD (t .deletes) (actionOf n) 0) (getD (t .adds) (actionOf n) 0) (getD (t .needs) (actionOf n) 0) (factOf n) (kindOf n))
 
 -- ---- the three kinds alike
 

@@ -5,11 +5,12 @@ use mathlib.Core.Logic.{inl, inr, ⊎-elim}
 use mathlib.Core.Path.{_≡_, refl, ap, _∙_}
 use Prim.Native.Nat.{ℕ}
 use native.Mathlib.Omega.{arith}
-use Rattle.facts.specs.Sets.{has, within}
+use Rattle.facts.specs.Sets.{has, removed, within}
 use Rattle.table.proofs.DecidingLaws.{is-all-right, is-formed}
 use Rattle.table.proofs.FlagLaws.{both, by-order}
 use Rattle.table.proofs.CountingLaws.{everyBelow-all}
 use Rattle.table.proofs.Formation.{formed-well}
+use Rattle.table.proofs.LockLaws.{locked-stands}
 use Rattle.table.proofs.JoinLaws.{formed-inside, right-outside}
 use Rattle.table.proofs.OrderLaws.{isIn-none, isIn-cases, ≼-length}
 use Rattle.table.proofs.RunLaws.{right-all-valid}
@@ -19,8 +20,8 @@ use Rattle.table.specs.Deciding.{isRight, isAllRight, isShaped, everyPla
 use Rattle.table.specs.Order.{Ascending, isIn, _≼_}
 use Rattle.table.specs.Repairs.{permits, permitted, chosen, repaired}
 use Rattle.table.specs.Strips.{Cells, stateAt, AllRight}
-use Rattle.table.specs.Tasks.{cellsOf, courseOf, coursesOf, sizesFormed, runFits, runFormed, maskFormed, actionFormed, stepFits, WellFormed, WorksFor}
-use Rattle.table.specs.Worked.{twoDeletes, twoRuns, Worked}
+use Rattle.table.specs.Tasks.{cellsOf, courseOf, coursesOf, sizesFormed, runFits, runFormed, maskFormed, actionFormed, locksFormed, stepFits, formed, WellFormed, WorksFor}
+use Rattle.table.specs.Worked.{twoDeletes, twoRuns, lockedNeed, lockedFirst, Worked}
 use Rattle.table.specs.declared.Task.{Task}
 
 -- ---- what computing decides of a list
@@ -80,7 +81,7 @@ later (inr (inr h)) = absurd (omega (arith, h .0))
 -- ---- the theorem
 
 pub worked : Worked
-unfolding passes isFormed isShaped sizesFormed runFormed runFits actionFormed maskFormed stepFits everyPlace everyBelow cellsOf courseOf stateAt isRight isAllRight allPermitted permitted permits chosen isIn has within
+unfolding passes isFormed formed isShaped sizesFormed runFormed runFits actionFormed maskFormed locksFormed removed stepFits everyPlace everyBelow cellsOf courseOf stateAt isRight isAllRight allPermitted permitted permits chosen isIn has within
 worked =
     let zero : WorksFor deletesTheGoal (0 ∷ []) = works-by deletesTheGoal (0 ∷ []) (omega arith, tt) refl in
     let none : WorksFor deletesTheGoal [] → ⊥ = λ w. false≢true (w .valid 0 (omega arith) .reaches 0 refl) in
@@ -119,4 +120,14 @@ worked =
         works-by twoRuns (32 ∷ []) (omega arith, tt) refl,
         λ w. false≢true (w .valid 1 (omega arith) .reaches 0 refl),
       );
+      permits-locked = refl;
+      locked = (
+        works-by lockedNeed (0 ∷ 1 ∷ []) (omega arith, (omega arith, tt)) refl,
+        λ w. false≢true (w .permitted .each 66 refl),
+      );
+      locked-first = λ m w.
+          false≢true
+          (w .valid 0 (omega arith) .may-run 0 (omega arith) 63
+          (locked-stands (cellsOf (lockedFirst .table)) m (w .permitted) 0 63 refl refl));
+      stray-lock = refl;
     }

@@ -19,6 +19,7 @@ task f a l needs adds deletes start goal steps = record {
     needs = filled maxActions needs;
     adds = filled maxActions adds;
     deletes = filled maxActions deletes;
+    locks = filled maxActions [];
   };
   runs = record {
     many = 1;
@@ -27,6 +28,21 @@ task f a l needs adds deletes start goal steps = record {
     counts = filled maxRuns (length steps ∷ []);
     steps = filled allSteps steps;
   };
+}
+
+-- The same table with these locks, for the first actions (02, request 6).
+abbrev pub locking : Task → List ℕ → Task
+locking t locks = record {
+  table = record {
+    facts = t .table .facts;
+    actions = t .table .actions;
+    limit = t .table .limit;
+    needs = t .table .needs;
+    adds = t .table .adds;
+    deletes = t .table .deletes;
+    locks = filled maxActions locks;
+  };
+  runs = t .runs;
 }
 
 -- The same table with a second run (02, request 1).

@@ -8,7 +8,7 @@ use lib.ListN.{length}
 use Rattle.table.specs.Counting.{everyBelow}
 use Rattle.table.specs.Sizes.{maxActions, maxRuns, allSteps}
 use Rattle.table.specs.Strips.{Cells, Course, Courses, stateAt}
-use Rattle.table.specs.Tasks.{sizesFormed, runFormed, actionFormed, stepFits}
+use Rattle.table.specs.Tasks.{sizesFormed, runFormed, actionFormed, locksFormed, stepFits}
 use Rattle.table.specs.declared.Task.{Task}
 
 -- "present wherever it is needed, and at the end if it is a goal"
@@ -23,7 +23,7 @@ isAllRight c rs f = everyBelow (λ i. isRight c (rs .course i) f) (rs .many)
 unfoldable pub isShaped : Task → Bool
 isShaped t =
     eqb (length (t .table .needs)) maxActions && eqb (length (t .table .adds)) maxActions &&
-    eqb (length (t .table .deletes)) maxActions &&
+    eqb (length (t .table .deletes)) maxActions && eqb (length (t .table .locks)) maxActions &&
     (eqb (length (t .runs .starts)) maxRuns && eqb (length (t .runs .goals)) maxRuns && eqb (length (t .runs .counts)) maxRuns &&
     eqb (length (t .runs .steps)) allSteps)
 
@@ -35,5 +35,7 @@ everyPlace test (a ∷ l) p = test p a && everyPlace test l (suc p)
 -- The task is well formed, with arrays of their declared lengths; the steps are looked at one after another, which is less to compute.
 unfoldable pub isFormed : Task → Bool
 isFormed t =
-    isShaped t && (sizesFormed t && everyBelow (runFormed t) maxRuns && everyBelow (actionFormed (t .table)) maxActions) &&
+    isShaped t &&
+    (sizesFormed t && everyBelow (runFormed t) maxRuns && everyBelow (actionFormed (t .table)) maxActions &&
+    everyBelow (locksFormed (t .table .needs) (t .table .locks)) maxActions) &&
     everyPlace (stepFits t) (t .runs .steps) 0

@@ -26,4 +26,4 @@ pub record CountsFit (r : Runs) : Type 0 where
 
 -- Runs and a number of actions as a task: on no other part of it depends whether its steps are formed.
 abbrev pub ofRuns : Runs → ℕ → Task
-ofRuns r n = record { table = record { facts = 0; actions = n; limit = 0; needs = []; adds = []; deletes = [] }; runs = r }
+ofRuns r n = record { table = record { facts = 0; actions = n; limit = 0; needs = []; adds = []; deletes = []; locks = [] }; runs = r }

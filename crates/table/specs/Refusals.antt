@@ -58,6 +58,11 @@ listNotPermitted = 15
 abbrev pub tooManyRuns : ℕ
 tooManyRuns = 16
 
+-- 02, request 6: "18 for a lock set on a cell that isn't a need, or a need cleared under a lock"; in a file for a lock on a cell that isn't
+-- a need.
+abbrev pub lockWithoutNeed : ℕ
+lockWithoutNeed = 18
+
 -- One check: does it fire, with which number, at which place.
 pub record Check : Type 0 where
   pub fires : Bool

@@ -32,9 +32,10 @@ kindOf n = n % perFact / perKind
 abbrev pub actionOf : ℕ → ℕ
 actionOf n = n % perFact % perKind
 
--- "kind 0 .. permitted if f is a delete of a; kind 1 .. if f is not yet an add of a; kind 2 .. if f is a need of a."
+-- "kind 0 .. permitted if f is a delete of a; kind 1 .. if f is not yet an add of a; kind 2 .. if f is a need of a." "Permitted now also means
+-- 'not a locked need'" (02, request 6).
 abbrev pub repairable : Cells → ℕ → ℕ → ℕ → Bool
-repairable c f k a = byKind k (c .deletes a f) (not (c .adds a f)) (c .needs a f)
+repairable c f k a = byKind k (c .deletes a f) (not (c .adds a f)) (c .needs a f && not (c .locks a f))
 
 -- ".. A number whose a or f is not in the task names no permitted repair."
 unfoldable pub permits : Cells → ℕ → ℕ → ℕ → Bool
@@ -47,7 +48,7 @@ permitted c n = permits c (factOf n) (kindOf n) (actionOf n)
 unfoldable pub chosen : (ℕ → Bool) → ℕ → ℕ → ℕ → Bool
 chosen R f k a = ltb a maxActions && R (numberOf f k a)
 
--- Definition 2: the table with a set of repairs applied. "Applying a list changes all its cells at once."
+-- Definition 2: the table with a set of repairs applied. "Applying a list changes all its cells at once." No repair changes a lock.
 abbrev pub repaired : Cells → (ℕ → Bool) → Cells
 repaired c R = record {
   facts = c .facts;
@@ -55,6 +56,7 @@ repaired c R = record {
   needs = λ a f. c .needs a f && not (chosen R f dropNeed a);
   adds = λ a f. c .adds a f || chosen R f addEffect a;
   deletes = λ a f. c .deletes a f && not (chosen R f dropDelete a);
+  locks = c .locks;
 }
 
 -- The number that the code gives a repair: one whose fact, kind or action is outside has `unused`, which names no permitted repair.

@@ -5,13 +5,14 @@ use mathlib.Core.Path.{_≡_}
 use Prim.Native.Nat.{ℕ, zero, suc, _<_}
 
 -- An action table: "Facts are 0 to F-1, actions 0 to A-1. Each action has needs, adds and deletes, three sets of facts."
--- Each set takes the action and then the fact.
+-- Each set takes the action and then the fact. Locks mark needs that no list may drop (02, request 6); a run does not look at them.
 pub record Cells : Type 0 where
   pub facts : ℕ
   pub actions : ℕ
   pub needs : ℕ → ℕ → Bool
   pub adds : ℕ → ℕ → Bool
   pub deletes : ℕ → ℕ → Bool
+  pub locks : ℕ → ℕ → Bool
 
 -- One known run: "a start set, a goal set and a list of n steps, each an action". `step i` is the action of step i + 1.
 pub record Course : Type 0 where

@@ -1,11 +1,11 @@
--- Which sets and which runs a task of the code stands for, and when a task is well formed: document 01, "Sizes"; 02, request 1.
-use mathlib.Core.Bool.{Bool, false, cond, _&&_, _||_}
+-- Which sets and which runs a task of the code stands for, and when a task is well formed: document 01, "Sizes"; 02, requests 1 and 6.
+use mathlib.Core.Bool.{Bool, true, false, cond, _&&_, _||_}
 use mathlib.Core.List.{List}
 use mathlib.Core.Path.{_≡_}
 use Prim.Native.Nat.{ℕ, _+_, _*_, _/_, _%_, _<_, _≤_}
 use lib.Dec.{eqb, leb, ltb}
 use lib.ListN.{length, getD}
-use Rattle.facts.specs.Sets.{has, within}
+use Rattle.facts.specs.Sets.{has, removed, within}
 use Rattle.table.specs.Counting.{everyBelow}
 use Rattle.table.specs.Sizes.{maxFacts, maxActions, maxRuns, maxSteps, allSteps, maxLimit}
 use Rattle.table.specs.Repairs.{byKind}
@@ -23,6 +23,7 @@ cellsOf t = record {
   needs = λ a f. has (getD (t .needs) a 0) f;
   adds = λ a f. has (getD (t .adds) a 0) f;
   deletes = λ a f. has (getD (t .deletes) a 0) f;
+  locks = λ a f. has (getD (t .locks) a 0) f;
 }
 
 -- The start and goal sets and the number of steps of run i, and its step j: the steps of run i stand from place 64i on.
@@ -67,6 +68,7 @@ withLimit t l = record {
     needs = t .table .needs;
     adds = t .table .adds;
     deletes = t .table .deletes;
+    locks = t .table .locks;
   };
   runs = t .runs;
 }
@@ -91,6 +93,11 @@ actionFormed t a =
     maskFormed t a (getD (t .needs) a 0) && maskFormed t a (getD (t .adds) a 0) &&
     maskFormed t a (getD (t .deletes) a 0)
 
+-- "A task with a lock on a cell that isn't a need is not well formed" (02, request 6): of action a no lock is left without a need. So there is
+-- no lock at or above F, and none of an unused action.
+unfoldable pub locksFormed : List ℕ → List ℕ → ℕ → Bool
+locksFormed needs locks a = eqb (removed (getD locks a 0) (getD needs a 0)) 0
+
 -- Of a run's start and goal sets and its number of steps: "no set has a fact at or above F"; "The limit of 64 steps holds for each run";
 -- "Everything for unused runs is zero" (02, request 1).
 unfoldable pub runFits : ℕ → ℕ → ℕ → ℕ → Bool → Bool
@@ -109,13 +116,15 @@ stepFormed t p = stepFits t p (getD (t .runs .steps) p 0)
 
 unfoldable pub formed : Task → Bool
 formed t =
-    sizesFormed t && everyBelow (runFormed t) maxRuns && everyBelow (actionFormed (t .table)) maxActions && everyBelow (stepFormed t) allSteps
+    sizesFormed t && everyBelow (runFormed t) maxRuns && everyBelow (actionFormed (t .table)) maxActions &&
+    everyBelow (locksFormed (t .table .needs) (t .table .locks)) maxActions && everyBelow (stepFormed t) allSteps
 
 -- An array of the code has its declared length; the lists of the logic do not say so by themselves.
 pub record Shaped (t : Task) : Type 0 where
   pub needs : length (t .table .needs) ≡ maxActions
   pub adds : length (t .table .adds) ≡ maxActions
   pub deletes : length (t .table .deletes) ≡ maxActions
+  pub locks : length (t .table .locks) ≡ maxActions
   pub starts : length (t .runs .starts) ≡ maxRuns
   pub goals : length (t .runs .goals) ≡ maxRuns
   pub counts : length (t .runs .counts) ≡ maxRuns
@@ -133,6 +142,7 @@ pub record WellFormed (t : Task) : Type 0 where
   pub many-high : t .runs .many ≤ maxRuns
   pub count-high : (i : ℕ) → countOf (t .runs) i ≤ maxSteps
   pub inside : (k a f : ℕ) → t .table .facts ≤ f → has (maskOf (t .table) k a) f ≡ false
+  pub locks-needs : (a f : ℕ) → cellsOf (t .table) .locks a f ≡ true → cellsOf (t .table) .needs a f ≡ true
   pub start-inside : (i f : ℕ) → t .table .facts ≤ f → has (startOf (t .runs) i) f ≡ false
   pub goal-inside : (i f : ℕ) → t .table .facts ≤ f → has (goalOf (t .runs) i) f ≡ false
   pub steps-below : (i j : ℕ) → j < countOf (t .runs) i → stepOf (t .runs) i j < t .table .actions

@@ -3,14 +3,14 @@
 use mathlib.Core.Bool.{Bool, true, false}
 use mathlib.Core.List.{List, [], _∷_, map}
 use mathlib.Core.Path.{_≡_}
-use Prim.Native.Nat.{ℕ}
+use Prim.Native.Nat.{ℕ, _^_}
 use Rattle.table.specs.Answer.{First, found, over, hopeless, Within}
-use Rattle.table.specs.Bench.{task, secondRun, listingTask, goalsAtStart, goalOutOfReach, addsAndDeletes, deletesTheGoal, needsLastFact}
+use Rattle.table.specs.Bench.{task, secondRun, locking, listingTask, goalsAtStart, goalOutOfReach, addsAndDeletes, deletesTheGoal, needsLastFact}
 use Rattle.table.specs.Order.{_≼_}
-use Rattle.table.specs.Refusals.{accepted, noEnd, unknownKind, sizesMisplaced, sizeOutside, numberOutside, notAscending, tooManySteps, bytesAfterEnd, noListWorks, overTheLimit, roomTooShort, notWellFormed, notASession, notThere, listNotPermitted, tooManyRuns}
+use Rattle.table.specs.Refusals.{accepted, noEnd, unknownKind, sizesMisplaced, sizeOutside, numberOutside, notAscending, tooManySteps, bytesAfterEnd, noListWorks, overTheLimit, roomTooShort, notWellFormed, notASession, notThere, listNotPermitted, tooManyRuns, lockWithoutNeed}
 use Rattle.table.specs.Repairs.{dropDelete, addEffect, dropNeed, numberOf, permitted}
 use Rattle.table.specs.Sizes.{maxLimit}
-use Rattle.table.specs.Tasks.{cellsOf, WorksFor}
+use Rattle.table.specs.Tasks.{cellsOf, formed, WorksFor}
 use Rattle.table.specs.declared.Task.{Task}
 
 -- "Shortest for inclusion taken for shortest in number": actions 0 and 1 delete fact 0, action 2 needs it, steps 0, 2, 1, 2, start 0.
@@ -21,6 +21,17 @@ twoDeletes = task 1 3 maxLimit (0 ∷ 0 ∷ 0b1 ∷ []) [] (0b1 ∷ 0b1 ∷ []) 
 abbrev pub twoRuns : Task
 twoRuns = secondRun deletesTheGoal 0 0b1 (0 ∷ [])
 
+-- "Some needs guard the laser shutter, and no list may drop them" (02, request 6): `twoDeletes` with action 2's need locked, and row 8 with its
+-- need locked; row 7 with a lock on what is no need.
+abbrev pub lockedNeed : Task
+lockedNeed = locking twoDeletes (0 ∷ 0 ∷ 0b1 ∷ [])
+
+abbrev pub lockedFirst : Task
+lockedFirst = locking needsLastFact (2 ^ 63 ∷ [])
+
+abbrev pub strayLock : Task
+strayLock = locking deletesTheGoal (0b1 ∷ [])
+
 -- Which of these numbers name a permitted repair of the task.
 abbrev pub permitsEach : Task → List ℕ → List Bool
 permitsEach t = map (permitted (cellsOf (t .table)))
@@ -29,8 +40,8 @@ pub record Worked : Type 0 where
   -- The names of Refusals are the rows of 01's table of refusals, 1 to 15, after success; and 02's.
   pub refusals :
       (accepted ∷ noEnd ∷ unknownKind ∷ sizesMisplaced ∷ sizeOutside ∷ numberOutside ∷ notAscending ∷ tooManySteps ∷ bytesAfterEnd ∷ noListWorks ∷
-      overTheLimit ∷ roomTooShort ∷ notWellFormed ∷ notASession ∷ notThere ∷ listNotPermitted ∷ tooManyRuns ∷ [])
-      ≡ (0 ∷ 1 ∷ 2 ∷ 3 ∷ 4 ∷ 5 ∷ 6 ∷ 7 ∷ 8 ∷ 9 ∷ 10 ∷ 11 ∷ 12 ∷ 13 ∷ 14 ∷ 15 ∷ 16 ∷ [])
+      overTheLimit ∷ roomTooShort ∷ notWellFormed ∷ notASession ∷ notThere ∷ listNotPermitted ∷ tooManyRuns ∷ lockWithoutNeed ∷ [])
+      ≡ (0 ∷ 1 ∷ 2 ∷ 3 ∷ 4 ∷ 5 ∷ 6 ∷ 7 ∷ 8 ∷ 9 ∷ 10 ∷ 11 ∷ 12 ∷ 13 ∷ 14 ∷ 15 ∷ 16 ∷ 18 ∷ [])
   -- "The number of a repair is 96f + 32k + a, from 0 to 6143": the numbers of rows 2 and 8, and the last
   pub numbers : (numberOf 1 dropDelete 1 ≡ 97) × (numberOf 2 addEffect 0 ≡ 224) × (numberOf 63 dropNeed 0 ≡ 6112) × (numberOf 63 dropNeed 31 ≡ 6143)
   -- Permitted by kind: 0, 32, 64 are the three repairs of fact 0 and action 0. Row 7's action deletes the fact, row 6's adds it too. Action
@@ -55,3 +66,9 @@ pub record Worked : Type 0 where
   pub number : WorksFor twoDeletes (66 ∷ []) × (First (WorksFor twoDeletes) (0 ∷ 1 ∷ []) → ⊥)
   -- Row 7's list, 0, is not enough for both runs; 32 is, and the second run alone is what 0 leaves refused.
   pub both-runs : WorksFor twoRuns (32 ∷ []) × (WorksFor twoRuns (0 ∷ []) → ⊥)
+  -- A locked need is not dropped: 66 is out, and 0, 1 works as before. At a first step nothing else helps, so that nothing works. A lock on a
+  -- cell that isn't a need: not well formed.
+  pub permits-locked : permitsEach lockedNeed (2 ∷ 34 ∷ 66 ∷ []) ≡ (false ∷ true ∷ false ∷ [])
+  pub locked : WorksFor lockedNeed (0 ∷ 1 ∷ []) × (WorksFor lockedNeed (66 ∷ []) → ⊥)
+  pub locked-first : Within (WorksFor lockedFirst) maxLimit hopeless
+  pub stray-lock : formed strayLock ≡ false

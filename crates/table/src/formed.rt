@@ -14,7 +14,7 @@ ghost use Prim.Native.Nat.{_≤_};
 ghost use Rattle.table.specs.Counting.{everyBelow, everyFrom};
 ghost use Rattle.table.specs.Passes.{CountsFit, ofRuns, setsWithin, stepBelow};
 ghost use Rattle.table.specs.Sizes.{maxActions, maxRuns, allSteps};
-ghost use Rattle.table.specs.Tasks.{formed, sizesFormed, runFits, runFormed, actionFormed, stepFormed};
+ghost use Rattle.table.specs.Tasks.{formed, sizesFormed, runFits, runFormed, actionFormed, locksFormed, stepFormed};
 
 // "its sizes are in range"
 fn are_sizes_formed(t: Task) -> bool
@@ -86,6 +86,24 @@ fn are_actions_formed(t: Table) -> bool
         & are_within(&t.needs, &t.adds, &t.deletes, actions, 0)
 }
 
+// Whether every lock is on a need. What is left of the locks without the needs is joined, for the same reason.
+fn are_on_needs<'a>(needs: &'a [u64; ACTIONS], locks: &'a [u64; ACTIONS]) -> bool
+    ensures { λ r. ⌜ r ≡ everyBelow (locksFormed (now (needs .entry)) (now (locks .entry))) maxActions ⌝ }
+{
+    let mut every = 0;
+    for a in 0..ACTIONS {
+        every = every | facts::remove(locks[a], needs[a]);
+    }
+    every == 0
+}
+
+// "A task with a lock on a cell that isn't a need is not well formed" (02, request 6).
+fn are_locks_formed(t: Table) -> bool
+    ensures { λ r. ⌜ r ≡ everyBelow (locksFormed (t .needs) (t .locks)) maxActions ⌝ }
+{
+    are_on_needs(&t.needs, &t.locks)
+}
+
 // Whether every step from `from` on and before `to` is below n. All are compared, as bytes, and none ends the loop early: for the
 // same reason.
 fn are_below(steps: &[u8; ALL_STEPS], from: usize, to: usize, n: u8) -> bool
@@ -131,5 +149,7 @@ pub fn is_formed(t: Task) -> bool
     if !are_runs_formed(t) {
         return false;
     }
-    are_actions_formed(t.table) & are_steps_formed(t.runs, t.table.actions)
+    are_actions_formed(t.table)
+        & are_locks_formed(t.table)
+        & are_steps_formed(t.runs, t.table.actions)
 }

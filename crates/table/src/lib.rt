@@ -37,7 +37,8 @@ pub const SESSION_PLACES: usize = ALL_ROWS;
 
 pub const UNUSED: u16 = 65535;
 
-// What each action needs, adds and deletes, a mask of facts each, with the sizes and the limit.
+// What each action needs, adds and deletes, and which of its needs are locked (02, request 6), a mask of facts each, with the sizes
+// and the limit.
 pub struct Table {
     pub facts: usize,
     pub actions: usize,
@@ -45,6 +46,7 @@ pub struct Table {
     pub needs: [u64; ACTIONS],
     pub adds: [u64; ACTIONS],
     pub deletes: [u64; ACTIONS],
+    pub locks: [u64; ACTIONS],
 }
 
 // The known runs: how many there are; of each what holds at its start, what must hold at its end and how many steps it has;

@@ -1,27 +1,27 @@
-// Whether a number names a permitted repair (document 01, "The model and its run").
+// Whether a number names a permitted repair (document 01, "The model and its run"; 02, request 6).
 use crate::Table;
 use crate::repair::Repair;
 ghost use mathlib.Core.Path.{_≡_};
 ghost use Prim.Native.Nat.{_<_};
 ghost use Rattle.table.specs.Sizes.{maxActions};
-ghost use Rattle.table.specs.Repairs.{permitted};
-ghost use Rattle.table.specs.Tasks.{cellsOf, maskOf};
+ghost use Rattle.table.specs.Repairs.{permitted, repairable};
+ghost use Rattle.table.specs.Tasks.{cellsOf};
 
-// The deletes, adds or needs of an action, by the kind.
-fn mask_of(t: Table, kind: usize, action: usize) -> u64
+// A delete must be present, an add absent, a need present and not locked.
+fn is_repairable(t: Table, fact: usize, kind: usize, action: usize) -> bool
     requires { ⌜ action < maxActions ⌝ }
-    ensures { λ r. ⌜ r ≡ maskOf t kind action ⌝ }
+    ensures { λ r. ⌜ r ≡ repairable (cellsOf t) fact kind action ⌝ }
 {
     if kind == Repair::DROP_DELETE {
-        t.deletes[action]
+        facts::contains(t.deletes[action], fact)
     } else if kind == Repair::ADD_EFFECT {
-        t.adds[action]
+        !facts::contains(t.adds[action], fact)
     } else {
-        t.needs[action]
+        facts::contains(facts::remove(t.needs[action], t.locks[action]), fact)
     }
 }
 
-// An add must be absent, a delete or a need present, and both the fact and the action in the task.
+// The repair's cell is as it must be, and both the fact and the action are in the task.
 pub fn is_permitted(t: Table, n: usize) -> bool
     ensures { λ r. ⌜ r ≡ permitted (cellsOf t) n ⌝ }
 {
@@ -31,6 +31,6 @@ pub fn is_permitted(t: Table, n: usize) -> bool
     let action = repair.action;
     let facts = t.facts;
     let actions = t.actions;
-    let present = facts::contains(mask_of(t, kind, action), fact);
-    (fact < facts) & (action < actions) & (present != (kind == Repair::ADD_EFFECT))
+    let repairable = is_repairable(t, fact, kind, action);
+    (fact < facts) & (action < actions) & repairable
 }

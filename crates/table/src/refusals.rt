@@ -1,7 +1,7 @@
 // The refusal numbers of documents 01 and 02, by one name each; `numbers` shows that they are those of specs/Refusals.
 ghost use mathlib.Core.List.{_∷_, []};
 ghost use mathlib.Core.Path.{_≡_};
-ghost use Rattle.table.specs.Refusals.{accepted, noEnd, unknownKind, sizesMisplaced, sizeOutside, numberOutside, notAscending, tooManySteps, bytesAfterEnd, noListWorks, overTheLimit, roomTooShort, notWellFormed, notASession, notThere, listNotPermitted, tooManyRuns};
+ghost use Rattle.table.specs.Refusals.{accepted, noEnd, unknownKind, sizesMisplaced, sizeOutside, numberOutside, notAscending, tooManySteps, bytesAfterEnd, noListWorks, overTheLimit, roomTooShort, notWellFormed, notASession, notThere, listNotPermitted, tooManyRuns, lockWithoutNeed};
 
 pub const ACCEPTED: usize = 0;
 
@@ -37,12 +37,14 @@ pub const LIST_NOT_PERMITTED: usize = 15;
 
 pub const TOO_MANY_RUNS: usize = 16;
 
-// How many numbers there are, success among them.
-pub const NUMBERS: usize = 17;
+pub const LOCK_WITHOUT_NEED: usize = 18;
+
+// How many numbers there are, success among them; 17 is that of the PDDL texts, and stands with them.
+pub const NUMBERS: usize = 18;
 
 // The code's numbers, in order, are the definitions'.
 pub fn numbers() -> [usize; NUMBERS]
-    ensures { λ r. ⌜ r ≡ (accepted ∷ noEnd ∷ unknownKind ∷ sizesMisplaced ∷ sizeOutside ∷ numberOutside ∷ notAscending ∷ tooManySteps ∷ bytesAfterEnd ∷ noListWorks ∷ overTheLimit ∷ roomTooShort ∷ notWellFormed ∷ notASession ∷ notThere ∷ listNotPermitted ∷ tooManyRuns ∷ []) ⌝ }
+    ensures { λ r. ⌜ r ≡ (accepted ∷ noEnd ∷ unknownKind ∷ sizesMisplaced ∷ sizeOutside ∷ numberOutside ∷ notAscending ∷ tooManySteps ∷ bytesAfterEnd ∷ noListWorks ∷ overTheLimit ∷ roomTooShort ∷ notWellFormed ∷ notASession ∷ notThere ∷ listNotPermitted ∷ tooManyRuns ∷ lockWithoutNeed ∷ []) ⌝ }
 {
     [
         ACCEPTED,
@@ -62,5 +64,6 @@ pub fn numbers() -> [usize; NUMBERS]
         NOT_THERE,
         LIST_NOT_PERMITTED,
         TOO_MANY_RUNS,
+        LOCK_WITHOUT_NEED,
     ]
 }
