@@ -4,7 +4,7 @@ use mathlib.Core.List.{List}
 use mathlib.Core.Path.{_≡_}
 use Prim.Native.Nat.{ℕ, _+_, _*_, _/_, _%_, _<_, _≤_}
 use lib.Dec.{eqb, leb, ltb}
-use lib.ListN.{length, getD}
+use lib.ListN.{length, getD, replicate}
 use Rattle.facts.specs.Sets.{has, removed, within}
 use Rattle.table.specs.Counting.{everyBelow}
 use Rattle.table.specs.Sizes.{maxFacts, maxActions, maxRuns, maxSteps, allSteps, maxLimit}
@@ -72,6 +72,21 @@ withLimit t l = record {
   };
   runs = t .runs;
 }
+
+-- The table, and the task, without its locks: what the PDDL texts carry (02, request 6).
+abbrev pub unlocked : Table → Table
+unlocked t = record {
+  facts = t .facts;
+  actions = t .actions;
+  limit = t .limit;
+  needs = t .needs;
+  adds = t .adds;
+  deletes = t .deletes;
+  locks = replicate maxActions 0;
+}
+
+abbrev pub unlockedTask : Task → Task
+unlockedTask t = record { table = unlocked (t .table); runs = t .runs }
 
 -- The mask of deletes, adds or needs of action a, by the kind of repair that concerns it.
 abbrev pub maskOf : Table → ℕ → ℕ → ℕ
