@@ -11,7 +11,7 @@ use Rattle.table.proofs.RefusalLaws.{silent, accepts}
 use Rattle.table.specs.Sizes.{maxRuns, maxSteps}
 use Rattle.table.specs.Tasks.{countOf}
 use Rattle.taskformat.specs.Format.{sizesKind, stepKind, runKind, isKind, bodyLength}
-use Rattle.taskformat.specs.Reading.{Seen, lastRun, kindAt, byteAt, bodyAt, misplaced, sizesWrong, outside, disordered, faultsAt, faultAt}
+use Rattle.taskformat.specs.Reading.{Seen, lastRun, kindAt, byteAt, bodyAt, misplaced, sizesWrong, outside, disordered, lockStray, faultsAt, faultAt}
 
 pub record Clear (s : List ℕ) (at : ℕ) (seen : Seen) : Type 0 where
   pub begun : at < length s
@@ -22,6 +22,7 @@ pub record Clear (s : List ℕ) (at : ℕ) (seen : Seen) : Type 0 where
   pub inside : outside (seen .task .table) (kindAt s at) (byteAt s at 0) (byteAt s at 1) ≡ false
   pub ordered : disordered seen (kindAt s at) (bodyAt s at) ≡ false
   pub runs : (eqb (kindAt s at) runKind && leb maxRuns (seen .task .runs .many)) ≡ false
+  pub locked : lockStray (seen .task .table) (kindAt s at) (byteAt s at 0) (byteAt s at 1) ≡ false
   pub room : (eqb (kindAt s at) stepKind && leb maxSteps (countOf (seen .task .runs) (lastRun (seen .task .runs)))) ≡ false
 
 pub clear : (s : List ℕ) (at : ℕ) (seen : Seen) → faultAt s at seen .number ≡ 0 → Clear s at seen
@@ -37,7 +38,8 @@ clear s at seen e =
       inside = q .1 .1 .1 .1 .1 .0;
       ordered = q .1 .1 .1 .1 .1 .1 .0;
       runs = q .1 .1 .1 .1 .1 .1 .1 .0;
-      room = q .1 .1 .1 .1 .1 .1 .1 .1 .0;
+      locked = q .1 .1 .1 .1 .1 .1 .1 .1 .0;
+      room = q .1 .1 .1 .1 .1 .1 .1 .1 .1 .0;
     }
 
 pub faultless : (s : List ℕ) (at : ℕ) (seen : Seen) → Clear s at seen → faultAt s at seen .number ≡ 0
@@ -51,7 +53,7 @@ faultless s at seen c =
           c .placed,
           (
             le-ltb (length s) (at + 1 + bodyLength (kindAt s at)) (c .whole),
-            (c .sized, (c .inside, (c .ordered, (c .runs, (c .room, tt))))),
+            (c .sized, (c .inside, (c .ordered, (c .runs, (c .locked, (c .room, tt)))))),
           ),
         ),
       ),

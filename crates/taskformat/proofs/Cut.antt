@@ -1,4 +1,4 @@
--- The first 24,000 bytes of any input decide what reading gives. Assumes nothing.
+-- The first 28,000 bytes of any input decide what reading gives. Assumes nothing.
 use mathlib.Core.Bool.{Bool, true, false, cond, _||_}
 use mathlib.Core.List.{List}
 use mathlib.Core.Logic.{_↔_}

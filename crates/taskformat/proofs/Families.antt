@@ -3,18 +3,24 @@ use mathlib.Core.Bool.{true, false, cond, false≢true}
 use mathlib.Core.List.{[]}
 use mathlib.Core.Logic.{_⊎_, inl, inr}
 use mathlib.Core.Path.{_≡_, refl, ap}
-use Prim.Native.Nat.{ℕ, zero, suc, _-_, _<_, _≤_}
+use Prim.Native.Nat.{ℕ, zero, suc, _<_, _≤_}
 use native.Mathlib.Omega.{arith}
 use lib.Dec.{eqb}
+use lib.ListN.{length}
 use borrow.Author.Tests.{le-leb, lt-leb, ne-eqb}
-use Rattle.table.specs.Repairs.{byKind}
+use Rattle.facts.specs.Sets.{has}
+use Rattle.table.proofs.Formation.{locks-inside, locks-unused}
+use Rattle.table.specs.Repairs.{dropDelete, addEffect, dropNeed}
 use Rattle.table.specs.Setting.{setIn}
+use Rattle.table.specs.Sizes.{maxActions}
+use Rattle.table.specs.Tasks.{Shaped, WellFormed}
 use Rattle.table.specs.declared.Runs.{Runs}
+use Rattle.table.specs.declared.Table.{Table}
 use Rattle.table.specs.declared.Task.{Task}
-use Rattle.taskformat.specs.Format.{sizesKind, runKind, startKind, goalKind, needKind, addKind, deleteKind, stepKind, endKind, isKind, isCellKind, isFactKind, bodyLength, positionOf}
-use Rattle.taskformat.specs.Reading.{lastRun, runsAfter}
+use Rattle.taskformat.specs.Format.{sizesKind, runKind, startKind, goalKind, needKind, addKind, deleteKind, lockKind, stepKind, endKind, isKind, isCellKind, isFactKind, bodyLength, positionOf}
+use Rattle.taskformat.specs.Reading.{lastRun, tableAfter, runsAfter}
 use Rattle.taskformat.proofs.PositionLaws.{within-kinds, order, position-known}
-use Rattle.taskformat.proofs.Ranks.{factSets, factPiece, cellPiece, slotPiece}
+use Rattle.taskformat.proofs.Ranks.{factSets, cellSets, cellSet, factPiece, cellPiece, slotPiece}
 
 -- Start or goal.
 pub record FactKind (k : ℕ) : Type 0 where
@@ -30,10 +36,18 @@ pub record FactKind (k : ℕ) : Type 0 where
   pub grown : (r : Runs) (kind x : ℕ)
       → factSets (runsAfter r kind x) k ≡ cond (eqb kind k) (setIn (factSets r k) (lastRun r) x true) (factSets r k)
 
--- Need, add or delete.
+-- The sets of a kind of cell: how they grow, and what well-formedness says of them.
+pub record CellSets (k : ℕ) : Type 0 where
+  pub grown : (t : Table) (kind x y z : ℕ)
+      → cellSets (tableAfter t kind x y z) k ≡ cond (eqb kind k) (setIn (cellSets t k) x y true) (cellSets t k)
+  pub full : (t : Task) → Shaped t → length (cellSets (t .table) k) ≡ maxActions
+  pub inside : (t : Task) → WellFormed t → (a f : ℕ) → t .table .facts ≤ f → has (cellSet (t .table) k a) f ≡ false
+  pub unused : (t : Task) → WellFormed t → (a : ℕ) → t .table .actions ≤ a → cellSet (t .table) k a ≡ 0
+
+-- Need, add, delete or lock.
 pub record CellKind (k : ℕ) : Type 0 where
   pub low : positionOf needKind ≤ positionOf k
-  pub high : positionOf k ≤ positionOf deleteKind
+  pub high : positionOf k ≤ positionOf lockKind
   pub known : isKind k ≡ true
   pub not-fact : isFactKind k ≡ false
   pub cell : isCellKind k ≡ true
@@ -41,7 +55,7 @@ pub record CellKind (k : ℕ) : Type 0 where
   pub not-run : eqb k runKind ≡ false
   pub length : bodyLength k ≡ 2
   pub shape : (t : Task) (i j : ℕ) → slotPiece t i k j ≡ cellPiece t i k j
-  pub mask : byKind (deleteKind - k) deleteKind addKind needKind ≡ k
+  pub sets : CellSets k
 
 pub data Family (k : ℕ) : Type 0 where
   ofNone : (isKind k ≡ true → k ≡ endKind) → ((t : Task) (i j : ℕ) → slotPiece t i k j ≡ []) → Family k
@@ -59,14 +73,15 @@ unfolding slotPiece isKind isCellKind bodyLength
 fact-kind k from up low high fact grown = record {
   low = low;
   high = high;
-  known = rw (le-leb sizesKind k (omega arith), le-leb k runKind (omega arith));
+  known = rw (le-leb sizesKind k (omega arith), le-leb k lockKind (omega arith));
   fact = fact;
-  not-cell = rw (lt-leb needKind k (omega arith));
+  not-cell = rw (lt-leb needKind k (omega arith), ne-eqb k lockKind (omega arith));
   not-step = ne-eqb k stepKind (omega arith);
   not-run = ne-eqb k runKind (omega arith);
   length = rw (
     ne-eqb k sizesKind (omega arith),
     lt-leb needKind k (omega arith),
+    ne-eqb k lockKind (omega arith),
     ne-eqb k endKind (omega arith),
     ne-eqb k runKind (omega arith),
   );
@@ -74,28 +89,22 @@ fact-kind k from up low high fact grown = record {
   grown = grown;
 }
 
--- From need to delete likewise; which of the three it is shows in its position and its mask.
-cell-kind : (k : ℕ) → needKind ≤ k → k ≤ deleteKind → positionOf needKind ≤ positionOf k → positionOf k ≤ positionOf deleteKind → byKind (deleteKind - k) deleteKind addKind needKind ≡ k → CellKind k
-unfolding slotPiece isKind isFactKind isCellKind bodyLength
-cell-kind k from up low high mask = record {
+-- Of a cell the tests follow from its being one; which of the four it is shows in its position and its sets.
+cell-kind : (k : ℕ) → goalKind < k → (k ≡ stepKind → ⊥) → (k ≡ runKind → ⊥) → positionOf needKind ≤ positionOf k → positionOf k ≤ positionOf lockKind
+    → isKind k ≡ true → isCellKind k ≡ true → CellSets k → CellKind k
+unfolding slotPiece isFactKind bodyLength
+cell-kind k from step run low high known cell sets = record {
   low = low;
   high = high;
-  known = rw (le-leb sizesKind k (omega arith), le-leb k runKind (omega arith));
+  known = known;
   not-fact = rw (ne-eqb k startKind (omega arith), ne-eqb k goalKind (omega arith));
-  cell = rw (le-leb needKind k from, le-leb k deleteKind up);
-  not-step = ne-eqb k stepKind (omega arith);
-  not-run = ne-eqb k runKind (omega arith);
-  length = rw (ne-eqb k sizesKind (omega arith), le-leb needKind k from, le-leb k deleteKind up);
+  cell = cell;
+  not-step = ne-eqb k stepKind step;
+  not-run = ne-eqb k runKind run;
+  length = rw (ne-eqb k sizesKind (omega arith), cell);
   shape = λ t i j.
-      rw (
-        ne-eqb k sizesKind (omega arith),
-        ne-eqb k runKind (omega arith),
-        ne-eqb k startKind (omega arith),
-        ne-eqb k goalKind (omega arith),
-        le-leb needKind k from,
-        le-leb k deleteKind up,
-      );
-  mask = mask;
+      rw (ne-eqb k sizesKind (omega arith), ne-eqb k runKind run, ne-eqb k startKind (omega arith), ne-eqb k goalKind (omega arith), cell);
+  sets = sets;
 }
 
 pub start-kind : FactKind startKind
@@ -107,15 +116,30 @@ unfolding isFactKind runsAfter
 goal-kind = fact-kind goalKind (omega arith) (omega arith) (omega (arith, order)) (omega (arith, order)) refl (λ r kind x. refl)
 
 pub need-kind : CellKind needKind
-need-kind = cell-kind needKind (omega arith) (omega arith) (omega (arith, order)) (omega (arith, order)) refl
+unfolding isKind isCellKind tableAfter
+need-kind =
+    cell-kind needKind (omega arith) (λ e. omega arith) (λ e. omega arith) (omega (arith, order)) (omega (arith, order)) refl refl
+    (record { grown = λ t kind x y z. refl; full = λ t s. s .needs; inside = λ t w. w .inside dropNeed; unused = λ t w. w .actions-unused dropNeed })
 
 pub add-kind : CellKind addKind
-add-kind = cell-kind addKind (omega arith) (omega arith) (omega (arith, order)) (omega (arith, order)) refl
+unfolding isKind isCellKind tableAfter
+add-kind =
+    cell-kind addKind (omega arith) (λ e. omega arith) (λ e. omega arith) (omega (arith, order)) (omega (arith, order)) refl refl
+    (record { grown = λ t kind x y z. refl; full = λ t s. s .adds; inside = λ t w. w .inside addEffect; unused = λ t w. w .actions-unused addEffect })
 
 pub delete-kind : CellKind deleteKind
-delete-kind = cell-kind deleteKind (omega arith) (omega arith) (omega (arith, order)) (omega (arith, order)) refl
+unfolding isKind isCellKind tableAfter
+delete-kind =
+    cell-kind deleteKind (omega arith) (λ e. omega arith) (λ e. omega arith) (omega (arith, order)) (omega (arith, order)) refl refl
+    (record { grown = λ t kind x y z. refl; full = λ t s. s .deletes; inside = λ t w. w .inside dropDelete; unused = λ t w. w .actions-unused dropDelete })
 
-beyond : (k : ℕ) → runKind < k → (t : Task) (i j : ℕ) → slotPiece t i k j ≡ []
+pub lock-kind : CellKind lockKind
+unfolding isKind isCellKind tableAfter
+lock-kind =
+    cell-kind lockKind (omega arith) (λ e. omega arith) (λ e. omega arith) (omega (arith, order)) (omega (arith, order)) refl refl
+    (record { grown = λ t kind x y z. refl; full = λ t s. s .locks; inside = locks-inside; unused = locks-unused })
+
+beyond : (k : ℕ) → lockKind < k → (t : Task) (i j : ℕ) → slotPiece t i k j ≡ []
 unfolding slotPiece isFactKind isCellKind
 beyond k l t i j =
     rw (
@@ -125,10 +149,11 @@ beyond k l t i j =
       ne-eqb k goalKind (omega arith),
       le-leb needKind k (omega arith),
       lt-leb k deleteKind (omega arith),
+      ne-eqb k lockKind (omega arith),
       ne-eqb k stepKind (omega arith),
     )
 
-no-kind : (k : ℕ) → runKind < k → isKind k ≡ true → k ≡ endKind
+no-kind : (k : ℕ) → lockKind < k → isKind k ≡ true → k ≡ endKind
 no-kind k l e = let range = within-kinds k e in absurd (omega arith)
 
 pub family : (k : ℕ) → Family k
@@ -143,12 +168,13 @@ family (suc (suc (suc (suc (suc (suc zero)))))) = ofCell delete-kind
 family (suc (suc (suc (suc (suc (suc (suc zero))))))) = ofStep refl
 family (suc (suc (suc (suc (suc (suc (suc (suc zero)))))))) = ofNone (λ _. refl) (λ t i j. refl)
 family (suc (suc (suc (suc (suc (suc (suc (suc (suc zero))))))))) = ofRun refl
-family (suc (suc (suc (suc (suc (suc (suc (suc (suc (suc k)))))))))) =
-    ofNone (no-kind (suc (suc (suc (suc (suc (suc (suc (suc (suc (suc k)))))))))) (omega arith))
-    (beyond (suc (suc (suc (suc (suc (suc (suc (suc (suc (suc k)))))))))) (omega arith))
+family (suc (suc (suc (suc (suc (suc (suc (suc (suc (suc zero)))))))))) = ofCell lock-kind
+family (suc (suc (suc (suc (suc (suc (suc (suc (suc (suc (suc k))))))))))) =
+    ofNone (no-kind (suc (suc (suc (suc (suc (suc (suc (suc (suc (suc (suc k))))))))))) (omega arith))
+    (beyond (suc (suc (suc (suc (suc (suc (suc (suc (suc (suc (suc k))))))))))) (omega arith))
 
--- Between start and delete there are only those two families.
-pub family-between : (k : ℕ) → positionOf startKind ≤ positionOf k → positionOf k ≤ positionOf deleteKind → FactKind k ⊎ CellKind k
+-- Between start and lock there are only those two families.
+pub family-between : (k : ℕ) → positionOf startKind ≤ positionOf k → positionOf k ≤ positionOf lockKind → FactKind k ⊎ CellKind k
 family-between k l h = by (family k)
   where
     by : Family k → FactKind k ⊎ CellKind k

@@ -1,4 +1,4 @@
--- The file of a well-formed task has at most 21,516 bytes. Assumes nothing.
+-- The file of a well-formed task has at most 27,660 bytes. Assumes nothing.
 use mathlib.Core.Bool.{Bool, true, false}
 use mathlib.Core.List.{List, [], _∷_}
 use mathlib.Core.Path.{refl, _≡_, ap}
@@ -11,7 +11,7 @@ use Rattle.table.specs.Sizes.{maxFacts, maxActions, maxSteps}
 use Rattle.table.specs.Tasks.{startOf, goalOf, countOf, stepOf, WellFormed}
 use Rattle.table.specs.declared.Runs.{Runs}
 use Rattle.table.specs.declared.Task.{Task}
-use Rattle.taskformat.specs.Format.{startKind, goalKind, needKind, addKind, deleteKind, stepKind, endKind, factRecords, cellRecords, stepRecords, setRecords, furtherRun, fileOf}
+use Rattle.taskformat.specs.Format.{startKind, goalKind, needKind, addKind, deleteKind, lockKind, stepKind, endKind, factRecords, cellRecords, stepRecords, setRecords, furtherRun, fileOf}
 use Rattle.taskformat.specs.Lengths.{longestFile}
 use Rattle.table.proofs.GatherLaws.{gather-length, gather-more}
 use Rattle.taskformat.proofs.Ranks.{ranks, pieceAt}
@@ -65,6 +65,7 @@ file-length t formed =
     let needs = cells-length needKind (t .table .facts) (t .table .actions) (t .table .needs) few some in
     let adds = cells-length addKind (t .table .facts) (t .table .actions) (t .table .adds) few some in
     let deletes = cells-length deleteKind (t .table .facts) (t .table .actions) (t .table .deletes) few some in
+    let locks = cells-length lockKind (t .table .facts) (t .table .actions) (t .table .locks) few some in
     let steps = steps-length (t .runs) 0 (formed .count-high 0) in
     let further =
     gather-length (λ i. furtherRun t (suc i)) (t .runs .many - 1) (1 + 2 * (maxFacts * 2) + maxSteps * 2)
@@ -83,5 +84,5 @@ records-length t formed r l =
     let sum = length-append (gather (pieceAt t) r) (gather (λ i. pieceAt t (r + i)) (ranks - r)) in omega arith
 
 -- The name's number is the document's.
-pub longest-file : longestFile ≡ 21516
+pub longest-file : longestFile ≡ 27660
 longest-file = refl

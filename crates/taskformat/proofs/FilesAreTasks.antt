@@ -39,7 +39,7 @@ one-task t q formed also same =
     ap (λ (r : TaskReply). r .task)
     (reads-unique (file-accepted t formed) (subst (λ (b : List ℕ). ReadsFile b (acceptedRead q)) (sym same) (file-accepted q also)))
 
--- The first 24,000 bytes of any input decide what reading gives.
+-- The first 28,000 bytes of any input decide what reading gives.
 pub cut-decides : (s : List ℕ) (r : TaskReply) → ReadsFile (take programRoom s) r ↔ ReadsFile s r
 cut-decides s r =
     by-order (length s) programRoom

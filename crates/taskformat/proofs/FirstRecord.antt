@@ -1,8 +1,8 @@
 -- The first record: the sizes, and what has been seen after them. Assumes nothing.
-use mathlib.Core.Bool.{Bool, true, false, cond, _&&_, and-false}
+use mathlib.Core.Bool.{Bool, true, false, cond, _&&_, and-false, true≢false}
 use mathlib.Core.List.{List, [], _∷_}
-use mathlib.Core.Path.{_≡_, refl, ap, _∙_}
-use Prim.Native.Nat.{ℕ, zero, suc, _+_, _-_, _*_, _/_, _%_, _<_, _≤_}
+use mathlib.Core.Path.{_≡_, refl, sym, ap, _∙_}
+use Prim.Native.Nat.{ℕ, zero, suc, _+_, _*_, _/_, _%_, _<_, _≤_}
 use native.Mathlib.Omega.{arith}
 use lib.Dec.{eqb, leb, ltb}
 use lib.ListN.{getD, replicate}
@@ -11,13 +11,13 @@ use Rattle.facts.specs.Sets.{has}
 use Rattle.facts.proofs.Laws.{has-empty}
 use Rattle.table.specs.Sizes.{maxFacts, maxActions, maxRuns, maxSteps, allSteps, maxLimit}
 use Rattle.table.specs.Lists.{piece}
-use Rattle.table.specs.Tasks.{startOf, goalOf, countOf, maskOf, WellFormed}
+use Rattle.table.specs.Tasks.{startOf, goalOf, countOf, cellsOf, maskOf, WellFormed}
 use Rattle.table.proofs.FlagLaws.{both}
 use Rattle.table.proofs.Formation.{byKind-all}
 use Rattle.table.specs.declared.Task.{Task}
-use Rattle.taskformat.specs.Format.{sizesKind, startKind, deleteKind}
+use Rattle.taskformat.specs.Format.{sizesKind, startKind, needKind, addKind, deleteKind}
 use Rattle.taskformat.specs.Reading.{byteRoom, Seen, noTask, nothingSeen, kindAt, byteAt, bodyAt, misplaced, sizesWrong, tableAfter, runsAfter, seenAfter}
-use Rattle.taskformat.proofs.Ranks.{slots, rank, runAtRank, kindAtRank, pieceAt, factPiece, cellPiece, stepPiece, runPiece, sizes-once, step-here, run-here, no-step, no-run}
+use Rattle.taskformat.proofs.Ranks.{slots, rank, runAtRank, kindAtRank, pieceAt, cellSet, factPiece, cellPiece, stepPiece, runPiece, sizes-once, step-here, run-here, no-step, no-run}
 use Rattle.taskformat.proofs.Families.{Family, ofNone, ofSizes, ofRun, ofFact, ofCell, ofStep, family}
 use Rattle.taskformat.proofs.OneMore.{taskAfter}
 use Rattle.taskformat.proofs.Clear.{Clear}
@@ -71,11 +71,11 @@ unfolding bareTask taskAfter runsAfter
 bare-run f a l i = (zero-at maxRuns i, zero-at maxRuns i, zero-at maxRuns i)
 
 bare-formed : (f a l : ℕ) → (0 < f) × (f ≤ maxFacts) × (0 < a) × (a ≤ maxActions) × (l ≤ maxLimit) → WellFormed (bareTask f a l)
-unfolding bareTask taskAfter tableAfter runsAfter
+unfolding bareTask taskAfter tableAfter runsAfter cellsOf
 bare-formed f a l sizes =
     let none = bare-run f a l in
     record {
-      shaped = record { needs = refl; adds = refl; deletes = refl; starts = refl; goals = refl; counts = refl; steps = refl };
+      shaped = record { needs = refl; adds = refl; deletes = refl; locks = refl; starts = refl; goals = refl; counts = refl; steps = refl };
       facts-low = sizes .0;
       facts-high = sizes .1;
       actions-low = sizes .2;
@@ -85,6 +85,7 @@ bare-formed f a l sizes =
       many-high = omega arith;
       count-high = λ i. let count = none i .2 in omega arith;
       inside = λ j i g _. rw (bare-mask f a l j i) (has-empty g);
+      locks-needs = λ i g e. absurd (true≢false (sym e ∙ rw (zero-at maxActions i) (has-empty g)));
       start-inside = λ i g _. rw (none i .0) (has-empty g);
       goal-inside = λ i g _. rw (none i .1) (has-empty g);
       steps-below = λ i j h. let count = none i .2 in absurd (omega arith);
@@ -103,9 +104,22 @@ bare-fact f a l i k j = at (eqb k startKind)
     at true = rw (zero-at maxRuns i, has-empty j)
     at false = rw (zero-at maxRuns i, has-empty j)
 
+bare-set : (f a l k i : ℕ) → cellSet (bareTask f a l .table) k i ≡ 0
+unfolding bareTask taskAfter tableAfter
+bare-set f a l k i = at (eqb k needKind) (eqb k addKind) (eqb k deleteKind)
+  where
+    none : List ℕ
+    none = replicate maxActions 0
+
+    at : (b c d : Bool) → getD (cond b none (cond c none (cond d none none))) i 0 ≡ 0
+    at true c d = zero-at maxActions i
+    at false true d = zero-at maxActions i
+    at false false true = zero-at maxActions i
+    at false false false = zero-at maxActions i
+
 bare-cell : (f a l i k j : ℕ) → cellPiece (bareTask f a l) i k j ≡ []
 unfolding cellPiece
-bare-cell f a l i k j = rw (bare-mask f a l (deleteKind - k) (j / byteRoom), has-empty (j % byteRoom), and-false (eqb i 0))
+bare-cell f a l i k j = rw (bare-set f a l k (j / byteRoom), has-empty (j % byteRoom), and-false (eqb i 0))
 
 bare-step : (f a l i j : ℕ) → stepPiece (bareTask f a l) i j ≡ []
 bare-step f a l i j = let none = bare-run f a l i .2 in no-step (bareTask f a l) i j (omega arith)

@@ -6,22 +6,27 @@ use mathlib.Core.Path.{_≡_, refl, sym, ap}
 use Prim.Native.Nat.{ℕ, suc, _+_, _*_, _%_, _<_, _≤_}
 use native.Mathlib.Omega.{arith}
 use lib.Dec.{eqb}
-use lib.ListN.{length}
+use lib.ListN.{length, getD}
+use Rattle.facts.specs.Sets.{has}
 use Rattle.table.specs.Sizes.{maxRuns, maxSteps}
 use Rattle.table.specs.Tasks.{countOf, WellFormed}
 use Rattle.table.specs.declared.Task.{Task}
-use Rattle.taskformat.specs.Format.{bodyLength, sizesKind, runKind, startKind, goalKind, needKind, deleteKind, stepKind, endKind, isKind, isCellKind, positionOf}
+use Rattle.taskformat.specs.Format.{bodyLength, sizesKind, runKind, startKind, goalKind, needKind, lockKind, stepKind, endKind, isKind, isCellKind, positionOf}
 use Rattle.taskformat.specs.Reading.{byteRoom, lastRun}
 use Rattle.taskformat.proofs.PositionLaws.{order, position-known, apart, one-kind}
 use Rattle.taskformat.proofs.Ranks.{slots, rank, runAtRank, kindAtRank, rank-whole, Digits, digits}
 use Rattle.taskformat.proofs.Families.{FactKind, CellKind, Family, ofNone, ofSizes, ofRun, ofFact, ofCell, ofStep, family}
+
+-- A lock is on a need.
+abbrev pub OnNeed : Task → ℕ → ℕ → ℕ → Type 0
+OnNeed t k x y = k ≡ lockKind → has (getD (t .table .needs) x 0) y ≡ true
 
 -- A record after the first that is not the end, with its numbers inside the task's sizes. What is said of one run is said of the one that
 -- was opened last; the cells are said with the first run.
 pub data Fits (t : Task) (k x y : ℕ) : Type 0 where
   opensRun : k ≡ runKind → t .runs .many < maxRuns → Fits t k x y
   factFits : FactKind k → x < t .table .facts → Fits t k x y
-  cellFits : CellKind k → x < t .table .actions → y < t .table .facts → lastRun (t .runs) ≡ 0 → Fits t k x y
+  cellFits : CellKind k → x < t .table .actions → y < t .table .facts → lastRun (t .runs) ≡ 0 → OnNeed t k x y → Fits t k x y
   stepFits : k ≡ stepKind → x < t .table .actions → countOf (t .runs) (lastRun (t .runs)) < maxSteps → Fits t k x y
 
 -- Its run, its place within its kind, its rank, and its bytes.
@@ -45,15 +50,15 @@ pub record Fitted (t : Task) (k x y : ℕ) : Type 0 where
   pub opens : positionOf k ≡ positionOf runKind → t .runs .many < maxRuns
   pub fact : positionOf startKind ≤ positionOf k → positionOf k ≤ positionOf goalKind → x < t .table .facts
   pub action : positionOf needKind ≤ positionOf k → x < t .table .actions
-  pub cell : positionOf needKind ≤ positionOf k → positionOf k ≤ positionOf deleteKind → y < t .table .facts
-  pub first : positionOf needKind ≤ positionOf k → positionOf k ≤ positionOf deleteKind → lastRun (t .runs) ≡ 0
+  pub cell : positionOf needKind ≤ positionOf k → positionOf k ≤ positionOf lockKind → y < t .table .facts
+  pub first : positionOf needKind ≤ positionOf k → positionOf k ≤ positionOf lockKind → lastRun (t .runs) ≡ 0
   pub room : positionOf k ≡ positionOf stepKind → countOf (t .runs) (lastRun (t .runs)) < maxSteps
   pub opened : positionOf k ≡ positionOf runKind → runOf t k ≡ t .runs .many
   pub same-run : (positionOf k ≡ positionOf runKind → ⊥) → runOf t k ≡ lastRun (t .runs)
   pub small : slotOf t k x y < slots
   pub run-slot : positionOf k ≡ positionOf runKind → slotOf t k x y ≡ 0
   pub fact-slot : positionOf startKind ≤ positionOf k → positionOf k ≤ positionOf goalKind → slotOf t k x y ≡ x
-  pub cell-slot : positionOf needKind ≤ positionOf k → positionOf k ≤ positionOf deleteKind → slotOf t k x y ≡ byteRoom * x + y
+  pub cell-slot : positionOf needKind ≤ positionOf k → positionOf k ≤ positionOf lockKind → slotOf t k x y ≡ byteRoom * x + y
   pub step-slot : positionOf k ≡ positionOf stepKind → slotOf t k x y ≡ countOf (t .runs) (lastRun (t .runs))
 
 pub fitted : (t : Task) (k x y : ℕ) → WellFormed t → Fits t k x y → Fitted t k x y
@@ -65,7 +70,7 @@ fitted t k x y formed (opensRun is l) =
 fitted t k x y formed (factFits kind l) =
     let run : runOf t k ≡ lastRun (t .runs) = rw (kind .not-run) in
     let slot : slotOf t k x y ≡ x = rw (kind .not-cell, kind .not-step, kind .not-run) in omega (arith, order)
-fitted t k x y formed (cellFits kind l m first) =
+fitted t k x y formed (cellFits kind l m first need) =
     let run : runOf t k ≡ lastRun (t .runs) = rw (kind .not-run) in
     let slot : slotOf t k x y ≡ byteRoom * x + y = rw (kind .cell) in omega (arith, order)
 fitted t k x y formed (stepFits is l m) =
@@ -90,18 +95,24 @@ in-last-run t k x y f other =
     let known : isKind runKind ≡ true = position-known runKind (omega (arith, order)) (omega (arith, order)) in
     f .same-run (λ same. other (one-kind k runKind (fitted-known f) known same))
 
--- Of a record that fits, a kind that neither opens a run nor is the steps' is from start to delete.
+-- Of a record that fits, a kind that neither opens a run nor is the steps' is from start to lock.
 pub before-steps : (t : Task) (k x y : ℕ) → Fitted t k x y → (k ≡ runKind → ⊥) → (k ≡ stepKind → ⊥)
-    → (positionOf startKind ≤ positionOf k) × (positionOf k ≤ positionOf deleteKind)
+    → (positionOf startKind ≤ positionOf k) × (positionOf k ≤ positionOf lockKind)
 before-steps t k x y f opens other = by (family k)
   where
-    by : Family k → (positionOf startKind ≤ positionOf k) × (positionOf k ≤ positionOf deleteKind)
+    by : Family k → (positionOf startKind ≤ positionOf k) × (positionOf k ≤ positionOf lockKind)
     by (ofNone out nothing) = absurd (apart k endKind (f .last) (sym (out (fitted-known f))))
     by (ofSizes is) = absurd (apart sizesKind k (f .later) is)
     by (ofRun is) = absurd (opens is)
     by (ofFact kind) = (kind .low, omega (arith, order))
     by (ofCell kind) = (omega (arith, order), kind .high)
     by (ofStep is) = absurd (other is)
+
+pub on-need : (t : Task) (k x y : ℕ) → Fits t k x y → OnNeed t k x y
+on-need t k x y (opensRun is l) lock = absurd (omega arith)
+on-need t k x y (factFits kind l) lock = let position = ap positionOf lock in absurd (omega (arith, order, kind))
+on-need t k x y (cellFits kind l m first need) lock = need lock
+on-need t k x y (stepFits is l m) lock = absurd (omega arith)
 
 pub run-bytes : (x y : ℕ) → recordBytes runKind x y ≡ runKind ∷ []
 unfolding recordBytes
@@ -123,5 +134,5 @@ pub record-length : (t : Task) (k x y : ℕ) → Fits t k x y → length (record
 unfolding recordBytes bodyLength isCellKind
 record-length t k x y (opensRun is l) = rw is
 record-length t k x y (factFits kind l) = rw (kind .length, kind .not-run, kind .not-cell)
-record-length t k x y (cellFits kind l m first) = rw (kind .length, kind .not-run, kind .cell)
+record-length t k x y (cellFits kind l m first need) = rw (kind .length, kind .not-run, kind .cell)
 record-length t k x y (stepFits is l m) = rw is

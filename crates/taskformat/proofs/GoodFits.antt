@@ -4,16 +4,18 @@ use mathlib.Core.Path.{_≡_}
 use Prim.Native.Nat.{ℕ, _<_, _≤_}
 use native.Mathlib.Omega.{arith}
 use lib.Dec.{eqb, leb}
-use borrow.Author.Tests.{eqb-false, eq-eqb, ne-eqb, leb-false}
+use lib.ListN.{getD}
+use borrow.Author.Tests.{eqb-false, eq-eqb, ne-eqb, leb-false, not-false}
 use Rattle.table.specs.Sizes.{maxRuns, maxSteps}
 use Rattle.table.specs.Tasks.{countOf}
+use Rattle.facts.specs.Sets.{has}
 use Rattle.table.proofs.FlagLaws.{or-left, or-right, or-neither}
 use Rattle.table.specs.declared.Table.{Table}
-use Rattle.taskformat.specs.Format.{noKind, sizesKind, runKind, stepKind, endKind, isKind, isCellKind, isFactKind, positionOf}
-use Rattle.taskformat.specs.Reading.{Seen, lastRun, misplaced, firstOutside, outside}
+use Rattle.taskformat.specs.Format.{noKind, sizesKind, runKind, stepKind, endKind, lockKind, isKind, isCellKind, isFactKind, positionOf}
+use Rattle.taskformat.specs.Reading.{Seen, lastRun, misplaced, firstOutside, outside, lockStray}
 use Rattle.taskformat.proofs.PositionLaws.{order, apart}
 use Rattle.taskformat.proofs.Families.{Family, ofNone, ofSizes, ofRun, ofFact, ofCell, ofStep, family}
-use Rattle.taskformat.proofs.Fitting.{Fits, opensRun, factFits, cellFits, stepFits}
+use Rattle.taskformat.proofs.Fitting.{Fits, opensRun, factFits, cellFits, stepFits, OnNeed}
 
 -- The first record has been seen.
 pub some-kind : (seen : Seen) → positionOf sizesKind ≤ positionOf (seen .kind) → eqb (seen .kind) noKind ≡ false
@@ -40,12 +42,16 @@ inside-parts t k x y e =
       second = λ is. leb-false (t .facts) y (rw is at (parts .1));
     }
 
+lock-on-need : (seen : Seen) (k x y : ℕ) → lockStray (seen .task .table) k x y ≡ false → OnNeed (seen .task) k x y
+unfolding lockStray
+lock-on-need seen k x y e lock = not-false (has (getD (seen .task .table .needs) x 0) y) (rw (eq-eqb k lockKind lock) at e)
+
 pub fits : (seen : Seen) (k x y : ℕ) → positionOf sizesKind ≤ positionOf (seen .kind) → isKind k ≡ true → misplaced seen k ≡ false
     → outside (seen .task .table) k x y ≡ false → (isCellKind k ≡ true → lastRun (seen .task .runs) ≡ 0)
-    → (eqb k runKind && leb maxRuns (seen .task .runs .many)) ≡ false
+    → (eqb k runKind && leb maxRuns (seen .task .runs .many)) ≡ false → lockStray (seen .task .table) k x y ≡ false
     → (eqb k stepKind && leb maxSteps (countOf (seen .task .runs) (lastRun (seen .task .runs)))) ≡ false
     → (k ≡ endKind → ⊥) → Fits (seen .task) k x y
-fits seen k x y low known placed inside first runs room more = by (family k)
+fits seen k x y low known placed inside first runs locked room more = by (family k)
   where
     numbers : Inside (seen .task .table) k x y
     numbers = inside-parts (seen .task .table) k x y inside
@@ -55,7 +61,9 @@ fits seen k x y low known placed inside first runs room more = by (family k)
     by (ofSizes is) = absurd (not-again seen k low placed is)
     by (ofRun is) = opensRun is (leb-false maxRuns (seen .task .runs .many) (rw (eq-eqb k runKind is) at runs))
     by (ofFact kind) = factFits kind (numbers .fact (kind .fact))
-    by (ofCell kind) = cellFits kind (numbers .action (or-left (isCellKind k) (eqb k stepKind) (kind .cell))) (numbers .second (kind .cell)) (first (kind .cell))
+    by (ofCell kind) =
+        cellFits kind (numbers .action (or-left (isCellKind k) (eqb k stepKind) (kind .cell))) (numbers .second (kind .cell)) (first (kind .cell))
+        (lock-on-need seen k x y locked)
     by (ofStep is) =
         let step = eq-eqb k stepKind is in
         stepFits is (numbers .action (or-right (isCellKind k) (eqb k stepKind) step))

@@ -3,24 +3,25 @@
 use mathlib.Core.Bool.{Bool, true, false, cond, _&&_, true≢false}
 use mathlib.Core.List.{[], _∷_}
 use mathlib.Core.Path.{_≡_, refl, sym, ap, _∙_}
-use Prim.Native.Nat.{ℕ, suc, _-_, _/_, _%_, _<_, _≤_}
+use Prim.Native.Nat.{ℕ, suc, _+_, _-_, _*_, _/_, _%_, _<_, _≤_}
 use native.Mathlib.Omega.{arith}
 use lib.Dec.{eqb, ltb}
 use lib.ListN.{length, getD}
 use borrow.Author.Tests.{ltb-true, ltb-false, eqb-true}
 use Rattle.facts.specs.Sets.{has}
 use Rattle.facts.proofs.Laws.{has-empty}
-use Rattle.table.specs.Tasks.{countOf, stepOf, WellFormed}
+use Rattle.table.specs.Sizes.{maxActions}
+use Rattle.table.specs.Tasks.{cellsOf, countOf, stepOf, WellFormed}
 use Rattle.table.specs.declared.Task.{Task}
-use Rattle.taskformat.specs.Format.{isKind, runKind, startKind, deleteKind, stepKind, endKind, positionOf}
+use Rattle.taskformat.specs.Format.{isKind, runKind, startKind, needKind, stepKind, endKind, positionOf}
 use Rattle.taskformat.specs.Reading.{byteRoom, Seen, lastRun}
-use Rattle.taskformat.proofs.Ranks.{slots, rank, factSet, cellMask, runPiece, factPiece, cellPiece, runAtRank, kindAtRank, pieceAt, rank-whole, sizes-once, step-here, step-shape, some-step, no-step, run-here, run-shape, some-run, no-run}
+use Rattle.taskformat.proofs.Ranks.{slots, rank, factSet, cellSet, runPiece, factPiece, cellPiece, runAtRank, kindAtRank, pieceAt, rank-whole, sizes-once, step-here, step-shape, some-step, no-step, run-here, run-shape, some-run, no-run}
 use Rattle.taskformat.proofs.PositionLaws.{order}
-use Rattle.taskformat.proofs.Families.{FactKind, CellKind, Family, ofNone, ofSizes, ofRun, ofFact, ofCell, ofStep, family}
-use Rattle.taskformat.proofs.Fitting.{Fits, opensRun, factFits, cellFits, stepFits, fitted, recordRank, recordBytes, run-bytes, fact-bytes, cell-bytes, step-bytes}
+use Rattle.taskformat.proofs.Families.{FactKind, CellKind, need-kind, Family, ofNone, ofSizes, ofRun, ofFact, ofCell, ofStep, family}
+use Rattle.taskformat.proofs.Fitting.{OnNeed, Fits, opensRun, factFits, cellFits, stepFits, fitted, recordRank, recordBytes, run-bytes, fact-bytes, cell-bytes, step-bytes}
 use Rattle.table.proofs.FlagLaws.{both, by-order}
 use Rattle.taskformat.proofs.Standing.{Standing, lastRank}
-use Rattle.taskformat.proofs.SameTask.{SameSizes}
+use Rattle.taskformat.proofs.SameTask.{SameSizes, same-cell}
 
 -- The sizes are the task's, and so are the records below rank r.
 pub record Agrees (t : Task) (seen : Seen) (r : ℕ) : Type 0 where
@@ -55,11 +56,12 @@ fact-inside t formed k i f e = (
     out true l = formed .start-inside i f l
     out false l = formed .goal-inside i f l
 
-cell-inside : (t : Task) → WellFormed t → (k a f : ℕ) → has (cellMask (t .table) k a) f ≡ true → (a < t .table .actions) × (f < t .table .facts)
-cell-inside t formed k a f e = (
+cell-inside : (t : Task) → WellFormed t → (k a f : ℕ) → CellKind k → has (cellSet (t .table) k a) f ≡ true
+    → (a < t .table .actions) × (f < t .table .facts)
+cell-inside t formed k a f kind e = (
   by-order a (t .table .actions) (λ l. l)
-      (λ l. absurd (true≢false (sym e ∙ ap (λ (m : ℕ). has m f) (formed .actions-unused (deleteKind - k) a l) ∙ has-empty f))),
-  by-order f (t .table .facts) (λ l. l) (λ l. absurd (true≢false (sym e ∙ formed .inside (deleteKind - k) a f l))),
+      (λ l. absurd (true≢false (sym e ∙ ap (λ (m : ℕ). has m f) (kind .sets .unused t formed a l) ∙ has-empty f))),
+  by-order f (t .table .facts) (λ l. l) (λ l. absurd (true≢false (sym e ∙ kind .sets .inside t formed a f l))),
 )
 
 step-inside : (t : Task) → WellFormed t → (i j : ℕ) → j < countOf (t .runs) i → i < t .runs .many
@@ -114,8 +116,17 @@ module _ (t : Task) (formed : WellFormed t) (seen : Seen) (slot r : ℕ) (stands
       let here = tells .same-run (omega (arith, order)) in
       record { fit = fit y; place = omega arith; bytes = fact-bytes kind j y ∙ sym piece-is })
 
+  -- The need under a lock of this rank has been seen: it is below.
+  need-seen : (k a f : ℕ) → r ≡ rank 0 k (byteRoom * a + f) → a < maxActions → f < byteRoom → has (cellSet (t .table) k a) f ≡ true
+      → OnNeed (seen .task) k a f
+  unfolding cellsOf
+  need-seen k a f whole l h e lock =
+      let need = formed .locks-needs a f (rw lock at e) in
+      let position = ap positionOf lock in
+      same-cell (seen .task) t needKind a f need-kind l h (agrees .pieces (rank 0 needKind (byteRoom * a + f)) (omega (arith, order))) ∙ need
+
   look-cell : CellKind (kindAtRank r) → (b : Bool)
-      → (eqb (runAtRank r) 0 && has (cellMask (t .table) (kindAtRank r) (r % slots / byteRoom)) (r % slots % byteRoom)) ≡ b → Look t seen r
+      → (eqb (runAtRank r) 0 && has (cellSet (t .table) (kindAtRank r) (r % slots / byteRoom)) (r % slots % byteRoom)) ≡ b → Look t seen r
   unfolding cellPiece
   look-cell kind false e = absent (kind .shape t (runAtRank r) (r % slots) ∙ rw e)
   look-cell kind true e =
@@ -125,13 +136,13 @@ module _ (t : Task) (formed : WellFormed t) (seen : Seen) (slot r : ℕ) (stands
       let f = r % slots % byteRoom in
       let whole = rank-whole r i k (r % slots) (kind .known) refl refl refl in
       let piece-is : pieceAt t r ≡ k ∷ a ∷ f ∷ [] = kind .shape t i (r % slots) ∙ rw e in
-      let tests = both (eqb i 0) (has (cellMask (t .table) k a) f) e in
+      let tests = both (eqb i 0) (has (cellSet (t .table) k a) f) e in
       let first = eqb-true i 0 (tests .0) in
-      let less = cell-inside t formed k a f (tests .1) in
+      let less = cell-inside t formed k a f kind (tests .1) in
       let actions = agrees .sizes .actions in
       let facts = agrees .sizes .facts in
       let run = within-run i k (r % slots) (omega (arith, order)) (omega (arith, order)) (omega arith) whole (omega (arith, formed .many-low)) in
-      let fit : Fits (seen .task) k a f = cellFits kind (omega arith) (omega arith) (omega arith) in
+      let fit : Fits (seen .task) k a f = cellFits kind (omega arith) (omega arith) (omega arith) (need-seen k a f (omega arith) (omega arith) (omega arith) (tests .1)) in
       let tells = fitted (seen .task) k a f (stands .formed) fit in
       let place = tells .cell-slot (kind .low) (kind .high) in
       let here = tells .same-run (omega (arith, order)) in
@@ -210,5 +221,5 @@ module _ (t : Task) (formed : WellFormed t) (seen : Seen) (slot r : ℕ) (stands
       by (ofRun is) = look-run is (ltb 0 (runAtRank r) && ltb (runAtRank r) (t .runs .many) && eqb (r % slots) 0) refl
       by (ofFact kind) = look-fact kind (has (factSet (t .runs) (kindAtRank r) (runAtRank r)) (r % slots)) refl
       by (ofCell kind) =
-          look-cell kind (eqb (runAtRank r) 0 && has (cellMask (t .table) (kindAtRank r) (r % slots / byteRoom)) (r % slots % byteRoom)) refl
+          look-cell kind (eqb (runAtRank r) 0 && has (cellSet (t .table) (kindAtRank r) (r % slots / byteRoom)) (r % slots % byteRoom)) refl
       by (ofStep is) = look-step is (ltb (r % slots) (countOf (t .runs) (runAtRank r))) refl

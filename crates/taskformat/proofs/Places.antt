@@ -86,7 +86,7 @@ fault-marks s at seen =
               λ _ _. inr there,
               λ _. (
                 λ e _. inr (outside-there s at seen whole e),
-                λ _. (λ e _. inr (disordered-there s at seen whole e), λ _. (λ _ _. inr there, λ _. (λ _ _. inr there, λ _. tt))),
+                λ _. (λ e _. inr (disordered-there s at seen whole e), λ _. (λ _ _. inr there, λ _. (λ _ _. inr there, λ _. (λ _ _. inr there, λ _. tt)))),
               ),
             ),
           ),

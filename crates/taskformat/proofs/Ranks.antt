@@ -11,11 +11,11 @@ use borrow.Author.Tests.{eqb-true, ltb-true, lt-ltb, le-ltb}
 use Rattle.facts.specs.Sets.{has}
 use Rattle.table.specs.Lists.{gather, piece}
 use Rattle.table.specs.Sizes.{maxActions, maxRuns}
-use Rattle.table.specs.Tasks.{countOf, stepOf, maskOf}
+use Rattle.table.specs.Tasks.{countOf, stepOf}
 use Rattle.table.specs.declared.Runs.{Runs}
 use Rattle.table.specs.declared.Table.{Table}
 use Rattle.table.specs.declared.Task.{Task}
-use Rattle.taskformat.specs.Format.{sizesKind, runKind, startKind, deleteKind, stepKind, endKind, isKind, isCellKind, isFactKind, positionOf, kindIn}
+use Rattle.taskformat.specs.Format.{sizesKind, runKind, startKind, needKind, addKind, deleteKind, stepKind, endKind, isKind, isCellKind, isFactKind, positionOf, kindIn}
 use Rattle.taskformat.specs.Reading.{byteRoom}
 use Rattle.table.proofs.FlagLaws.{both, is-false}
 use Rattle.table.proofs.GatherLaws.{gather-none, gather-next, gather-zero}
@@ -36,8 +36,11 @@ factSets r k = cond (eqb k startKind) (r .starts) (r .goals)
 abbrev pub factSet : Runs → ℕ → ℕ → ℕ
 factSet r k i = getD (factSets r k) i 0
 
-abbrev pub cellMask : Table → ℕ → ℕ → ℕ
-cellMask t k a = maskOf t (deleteKind - k) a
+abbrev pub cellSets : Table → ℕ → List ℕ
+cellSets t k = cond (eqb k needKind) (t .needs) (cond (eqb k addKind) (t .adds) (cond (eqb k deleteKind) (t .deletes) (t .locks)))
+
+abbrev pub cellSet : Table → ℕ → ℕ → ℕ
+cellSet t k a = getD (cellSets t k) a 0
 
 unfoldable pub sizesPiece : Task → ℕ → ℕ → List ℕ
 sizesPiece t i j = piece (eqb i 0 && eqb j 0) (sizesRecord (t .table))
@@ -50,7 +53,7 @@ factPiece t i k j = piece (has (factSet (t .runs) k i) j) (k ∷ j ∷ [])
 
 unfoldable pub cellPiece : Task → ℕ → ℕ → ℕ → List ℕ
 cellPiece t i k j =
-    piece (eqb i 0 && has (cellMask (t .table) k (j / byteRoom)) (j % byteRoom)) (k ∷ j / byteRoom ∷ j % byteRoom ∷ [])
+    piece (eqb i 0 && has (cellSet (t .table) k (j / byteRoom)) (j % byteRoom)) (k ∷ j / byteRoom ∷ j % byteRoom ∷ [])
 
 unfoldable pub stepPiece : Task → ℕ → ℕ → List ℕ
 stepPiece t i j = piece (ltb j (countOf (t .runs) i)) (stepKind ∷ stepOf (t .runs) i j ∷ [])

@@ -17,8 +17,8 @@ use Rattle.taskformat.proofs.Families.{Family, ofNone, ofSizes, ofRun, 
 use Rattle.taskformat.proofs.PositionLaws.{order, apart}
 use Rattle.taskformat.proofs.Fitting.{Fitted, fitted-known, rank-there, is-rank, recordRank, recordBytes, run-bytes, step-bytes}
 use Rattle.taskformat.proofs.Grown.{grown-piece, more-below, or-opened}
-use Rattle.taskformat.proofs.RunsAfter.{same-sizes, many-after, counts-after, steps-after}
-use Rattle.taskformat.proofs.OneMore.{taskAfter, formed-after}
+use Rattle.taskformat.proofs.RunsAfter.{same-sizes, many-after, counts-after, steps-after, runs-formed}
+use Rattle.taskformat.proofs.OneMore.{taskAfter}
 use Rattle.taskformat.proofs.SetsAfter.{After, fact-after, cell-after}
 
 module _ (t : Task) (k x y z : ℕ) (formed : WellFormed t) (fitted : Fitted t k x y) where
@@ -73,10 +73,10 @@ module _ (t : Task) (k x y z : ℕ) (formed : WellFormed t) (fitted : Fitted t k
 
   -- From place 64 on no run has a step.
   no-step-after : (r : ℕ) → kindAtRank r ≡ stepKind → maxSteps ≤ r % slots → After t k x y z formed fitted r
-  unfolding slotPiece isFactKind isCellKind
+  unfolding taskAfter slotPiece isFactKind isCellKind
   no-step-after r is past =
       let most = formed .count-high (runAtRank r) in
-      let also = formed-after t k x y z formed fitted .count-high (runAtRank r) in
+      let also = runs-formed t k x y formed fitted .count-high (runAtRank r) in
       rw (is, ne-eqb r new other)
       (no-step (taskAfter t k x y z) (runAtRank r) (r % slots) (omega arith) ∙ sym (no-step t (runAtRank r) (r % slots) (omega arith)))
     where

@@ -2,7 +2,7 @@
 use mathlib.Core.Bool.{Bool, true, false, _&&_, and-true}
 use mathlib.Core.List.{List, [], _∷_}
 use mathlib.Core.Path.{_≡_, refl, sym, ap, _∙_}
-use Prim.Native.Nat.{ℕ, _+_, _-_, _*_, _/_, _%_, _<_, _≤_}
+use Prim.Native.Nat.{ℕ, _+_, _*_, _/_, _%_, _<_, _≤_}
 use native.Mathlib.Omega.{arith}
 use lib.Dec.{ltb}
 use lib.ListN.{length, getD}
@@ -12,15 +12,15 @@ use Rattle.facts.specs.Sets.{has}
 use Rattle.facts.proofs.Laws.{same-sets}
 use Rattle.table.proofs.FlagLaws.{by-order}
 use Rattle.table.specs.Lists.{piece}
-use Rattle.table.specs.Sizes.{maxRuns, maxSteps}
+use Rattle.table.specs.Sizes.{maxActions, maxRuns, maxSteps}
 use Rattle.table.specs.Tasks.{countOf, stepOf, WellFormed}
 use Rattle.table.specs.declared.Table.{Table}
 use Rattle.table.specs.declared.Task.{Task}
-use Rattle.taskformat.specs.Format.{runKind, startKind, goalKind, needKind, addKind, deleteKind, stepKind, endKind, isKind, isFactKind, isCellKind, positionOf}
+use Rattle.taskformat.specs.Format.{runKind, startKind, goalKind, needKind, addKind, deleteKind, lockKind, stepKind, endKind, isKind, isFactKind, isCellKind, positionOf}
 use Rattle.taskformat.specs.Reading.{byteRoom}
-use Rattle.taskformat.proofs.Ranks.{slots, ranks, rank, factSet, cellMask, runPiece, factPiece, cellPiece, stepPiece, slotPiece, pieceAt, at-rank, some-step}
+use Rattle.taskformat.proofs.Ranks.{slots, ranks, rank, factSet, cellSet, runPiece, factPiece, cellPiece, stepPiece, slotPiece, pieceAt, at-rank, some-step}
 use Rattle.taskformat.proofs.PositionLaws.{order}
-use Rattle.taskformat.proofs.Families.{FactKind, CellKind, start-kind, goal-kind, need-kind, add-kind, delete-kind}
+use Rattle.taskformat.proofs.Families.{FactKind, CellKind, start-kind, goal-kind, need-kind, add-kind, delete-kind, lock-kind}
 
 -- The same sizes.
 pub record SameSizes (t q : Table) : Type 0 where
@@ -43,6 +43,22 @@ same-number m n b l h same =
     (λ most.
     by-order n m (λ less. let here = ltb-true n n (sym (same n (omega arith)) ∙ lt-ltb n m less) in absurd (omega arith)) (λ also. omega arith))
 
+-- The same cell, where the records of its rank are the same.
+pub same-cell : (t q : Task) (k a f : ℕ) → CellKind k → a < maxActions → f < byteRoom
+    → pieceAt t (rank 0 k (byteRoom * a + f)) ≡ pieceAt q (rank 0 k (byteRoom * a + f))
+    → has (cellSet (t .table) k a) f ≡ has (cellSet (q .table) k a) f
+unfolding cellPiece
+same-cell t q k a f kind l h same =
+    let j = byteRoom * a + f in
+    let action : j / byteRoom ≡ a = omega arith in
+    let fact : j % byteRoom ≡ f = omega arith in
+    let shape : (r : Task) → pieceAt r (rank 0 k j) ≡ cellPiece r 0 k j =
+    λ r. at-rank r 0 k j (kind .known) (omega (arith, order)) (omega arith) ∙ kind .shape r 0 j in
+    let there =
+    same-test (has (cellSet (t .table) k (j / byteRoom)) (j % byteRoom)) (has (cellSet (q .table) k (j / byteRoom)) (j % byteRoom)) k
+    (j / byteRoom ∷ j % byteRoom ∷ []) (j / byteRoom ∷ j % byteRoom ∷ []) (sym (shape t) ∙ same ∙ shape q) in
+    rw (action, fact) at there
+
 module _ (t q : Task) (formed : WellFormed t) (formed′ : WellFormed q) (sizes : SameSizes (t .table) (q .table))
     (same : (r : ℕ) → r < ranks → pieceAt t r ≡ pieceAt q r) where
   same-slots : (i k j : ℕ) → i < maxRuns → isKind k ≡ true → positionOf k < positionOf endKind → j < slots
@@ -56,19 +72,11 @@ module _ (t q : Task) (formed : WellFormed t) (formed′ : WellFormed q) (sizes 
       (sym (kind .shape t i f) ∙ same-slots i k f few (kind .known) (omega (arith, order)) l ∙ kind .shape q i f)
 
   same-cells : (k a f : ℕ) → CellKind k → a < t .table .actions → f < t .table .facts
-      → has (cellMask (t .table) k a) f ≡ has (cellMask (q .table) k a) f
-  unfolding cellPiece
+      → has (cellSet (t .table) k a) f ≡ has (cellSet (q .table) k a) f
   same-cells k a f kind l h =
       let few = formed .actions-high in
       let most = formed .facts-high in
-      let j = byteRoom * a + f in
-      let action : j / byteRoom ≡ a = omega arith in
-      let fact : j % byteRoom ≡ f = omega arith in
-      let there =
-      same-test (has (cellMask (t .table) k (j / byteRoom)) (j % byteRoom)) (has (cellMask (q .table) k (j / byteRoom)) (j % byteRoom)) k
-      (j / byteRoom ∷ j % byteRoom ∷ []) (j / byteRoom ∷ j % byteRoom ∷ [])
-      (sym (kind .shape t 0 j) ∙ same-slots 0 k j (omega arith) (kind .known) (omega (arith, order)) (omega arith) ∙ kind .shape q 0 j) in
-      rw (action, fact) at there
+      same-cell t q k a f kind (omega arith) (omega arith) (same (rank 0 k (byteRoom * a + f)) (omega (arith, order)))
 
   same-steps : (i j : ℕ) → i < maxRuns → j < slots → stepPiece t i j ≡ stepPiece q i j
   unfolding slotPiece isKind isFactKind isCellKind
@@ -88,19 +96,15 @@ module _ (t q : Task) (formed : WellFormed t) (formed′ : WellFormed q) (sizes 
       by-order f (t .table .facts) (λ l. let most = formed .facts-high in same-facts i k f few kind (omega arith))
       (λ l. let size = sizes .facts in inside i f l ∙ sym (inside′ i f (omega arith))))
 
-  same-mask : (k a : ℕ) → CellKind k → cellMask (t .table) k a ≡ cellMask (q .table) k a
-  same-mask k a kind =
+  same-cell-set : (k a : ℕ) → CellKind k → cellSet (t .table) k a ≡ cellSet (q .table) k a
+  same-cell-set k a kind =
       by-order a (t .table .actions)
       (λ l.
-      same-sets (cellMask (t .table) k a) (cellMask (q .table) k a)
+      same-sets (cellSet (t .table) k a) (cellSet (q .table) k a)
       (λ f.
       by-order f (t .table .facts) (same-cells k a f kind l)
-      (λ h.
-      let size = sizes .facts in
-      formed .inside (deleteKind - k) a f h ∙ sym (formed′ .inside (deleteKind - k) a f (omega arith)))))
-      (λ l.
-      let size = sizes .actions in
-      formed .actions-unused (deleteKind - k) a l ∙ sym (formed′ .actions-unused (deleteKind - k) a (omega arith)))
+      (λ h. let size = sizes .facts in kind .sets .inside t formed a f h ∙ sym (kind .sets .inside q formed′ a f (omega arith)))))
+      (λ l. let size = sizes .actions in kind .sets .unused t formed a l ∙ sym (kind .sets .unused q formed′ a (omega arith)))
 
   -- ---- the runs
 
@@ -144,6 +148,7 @@ module _ (t q : Task) (formed : WellFormed t) (formed′ : WellFormed q) (sizes 
       needs = same-needs i;
       adds = same-adds i;
       deletes = same-deletes i;
+      locks = same-locks i;
     };
     runs = record { many = same-many i; starts = same-starts i; goals = same-goals i; counts = same-counts i; steps = all-steps i };
   }
@@ -151,17 +156,22 @@ module _ (t q : Task) (formed : WellFormed t) (formed′ : WellFormed q) (sizes 
       same-needs : t .table .needs ≡ q .table .needs
       same-needs =
           ext-getD 0 (t .table .needs) (q .table .needs) (formed .shaped .needs ∙ sym (formed′ .shaped .needs))
-          (λ a _. same-mask needKind a need-kind)
+          (λ a _. same-cell-set needKind a need-kind)
 
       same-adds : t .table .adds ≡ q .table .adds
       same-adds =
           ext-getD 0 (t .table .adds) (q .table .adds) (formed .shaped .adds ∙ sym (formed′ .shaped .adds))
-          (λ a _. same-mask addKind a add-kind)
+          (λ a _. same-cell-set addKind a add-kind)
 
       same-deletes : t .table .deletes ≡ q .table .deletes
       same-deletes =
           ext-getD 0 (t .table .deletes) (q .table .deletes) (formed .shaped .deletes ∙ sym (formed′ .shaped .deletes))
-          (λ a _. same-mask deleteKind a delete-kind)
+          (λ a _. same-cell-set deleteKind a delete-kind)
+
+      same-locks : t .table .locks ≡ q .table .locks
+      same-locks =
+          ext-getD 0 (t .table .locks) (q .table .locks) (formed .shaped .locks ∙ sym (formed′ .shaped .locks))
+          (λ a _. same-cell-set lockKind a lock-kind)
 
       same-starts : t .runs .starts ≡ q .runs .starts
       same-starts =

@@ -9,11 +9,12 @@ use lib.ListN.{getD}
 use borrow.Author.Tests.{ne-eqb}
 use Rattle.facts.specs.Sets.{has}
 use Rattle.facts.proofs.Laws.{has-empty}
+use Rattle.table.proofs.Formation.{locks-inside, locks-unused}
 use Rattle.table.specs.Lists.{gather, piece}
 use Rattle.table.specs.Sizes.{maxActions, maxRuns}
 use Rattle.table.specs.Tasks.{startOf, goalOf, countOf, stepOf, WellFormed}
 use Rattle.table.specs.declared.Task.{Task}
-use Rattle.taskformat.specs.Format.{sizesKind, runKind, startKind, goalKind, needKind, addKind, deleteKind, stepKind, endKind, noKind, isCellKind, isFactKind, kindIn, factRecords, cellRecords, stepRecords, setRecords, furtherRun, fileOf}
+use Rattle.taskformat.specs.Format.{sizesKind, runKind, startKind, goalKind, needKind, addKind, deleteKind, lockKind, stepKind, endKind, noKind, isCellKind, isFactKind, kindIn, factRecords, cellRecords, stepRecords, setRecords, furtherRun, fileOf}
 use Rattle.taskformat.specs.Reading.{byteRoom}
 use Rattle.table.proofs.GatherLaws.{gather-same, gather-digits, gather-more, gather-zero, gather-one}
 use Rattle.taskformat.proofs.PositionLaws.{positions, in-order}
@@ -102,7 +103,7 @@ module _ (t : Task) (formed : WellFormed t) where
 
   by-kinds : (i : ℕ) → runSection i ≡
       section i noKind ++ section i sizesKind ++ section i runKind ++ section i startKind ++ section i goalKind ++
-      section i needKind ++ section i addKind ++ section i deleteKind ++ section i stepKind
+      section i needKind ++ section i addKind ++ section i deleteKind ++ section i lockKind ++ section i stepKind
   by-kinds i = in-order (λ k. section i k)
 
   abbrev cells : ℕ → List ℕ → List ℕ
@@ -110,7 +111,7 @@ module _ (t : Task) (formed : WellFormed t) where
 
   first-section : runSection 0 ≡
       sizesRecord (t .table) ++ setRecords t 0 ++ cells needKind (t .table .needs) ++ cells addKind (t .table .adds) ++
-      cells deleteKind (t .table .deletes) ++ stepRecords (t .runs) 0
+      cells deleteKind (t .table .deletes) ++ cells lockKind (t .table .locks) ++ stepRecords (t .runs) 0
   unfolding setRecords slotPiece isFactKind isCellKind cellPiece
   first-section =
       by-kinds 0
@@ -123,9 +124,10 @@ module _ (t : Task) (formed : WellFormed t) where
         cell-section needKind (t .table .needs) (λ j. refl) (formed .inside 2) (formed .actions-unused 2),
         cell-section addKind (t .table .adds) (λ j. refl) (formed .inside 1) (formed .actions-unused 1),
         cell-section deleteKind (t .table .deletes) (λ j. refl) (formed .inside 0) (formed .actions-unused 0),
+        cell-section lockKind (t .table .locks) (λ j. refl) (locks-inside t formed) (locks-unused t formed),
         step-section 0,
       )
-      (ap (λ (l : List ℕ). l ++ cells needKind (t .table .needs) ++ cells addKind (t .table .adds) ++ cells deleteKind (t .table .deletes) ++ stepRecords (t .runs) 0)
+      (ap (λ (l : List ℕ). l ++ cells needKind (t .table .needs) ++ cells addKind (t .table .adds) ++ cells deleteKind (t .table .deletes) ++ cells lockKind (t .table .locks) ++ stepRecords (t .runs) 0)
       (append-assoc (sizesRecord (t .table)) (factRecords startKind (t .table .facts) (startOf (t .runs) 0)) (factRecords goalKind (t .table .facts) (goalOf (t .runs) 0))))
 
   -- What a further run has beside what opens it.
@@ -141,6 +143,7 @@ module _ (t : Task) (formed : WellFormed t) where
         no-cells i needKind low (λ j. refl),
         no-cells i addKind low (λ j. refl),
         no-cells i deleteKind low (λ j. refl),
+        no-cells i lockKind low (λ j. refl),
         step-section i,
       )
       (simp (append-assoc, append-nil))

@@ -2,7 +2,7 @@
 use mathlib.Core.Bool.{true, cond, _&&_}
 use mathlib.Core.List.{[], _∷_}
 use mathlib.Core.Path.{_≡_, sym, ap, _∙_}
-use Prim.Native.Nat.{ℕ, _-_, _/_, _%_, _<_, _≤_}
+use Prim.Native.Nat.{ℕ, _/_, _%_, _<_, _≤_}
 use native.Mathlib.Omega.{arith}
 use lib.Dec.{eqb}
 use borrow.Author.Tests.{eqb-true, eq-eqb}
@@ -10,15 +10,15 @@ use Rattle.facts.specs.Sets.{width, has}
 use Rattle.table.proofs.FlagLaws.{both, and-both}
 use Rattle.table.specs.Tasks.{WellFormed}
 use Rattle.table.specs.declared.Task.{Task}
-use Rattle.taskformat.specs.Format.{needKind, deleteKind, positionOf}
+use Rattle.taskformat.specs.Format.{needKind, lockKind, positionOf}
 use Rattle.taskformat.specs.Reading.{byteRoom, lastRun}
-use Rattle.taskformat.proofs.Ranks.{slots, factSet, cellMask, factPiece, cellPiece, runAtRank, kindAtRank, pieceAt}
+use Rattle.taskformat.proofs.Ranks.{slots, factSet, cellSet, factPiece, cellPiece, runAtRank, kindAtRank, pieceAt}
 use Rattle.taskformat.proofs.Families.{FactKind, CellKind}
 use Rattle.taskformat.proofs.PositionLaws.{order}
 use Rattle.taskformat.proofs.Fitting.{Fitted, rank-there, is-rank, recordRank, recordBytes, fact-bytes, cell-bytes}
 use Rattle.taskformat.proofs.Grown.{has-grown, grown-piece, and-or}
 use Rattle.taskformat.proofs.RunsAfter.{sets-after}
-use Rattle.taskformat.proofs.OneMore.{taskAfter, masks-after}
+use Rattle.taskformat.proofs.OneMore.{taskAfter, has-after}
 
 module _ (t : Task) (k x y z : ℕ) (formed : WellFormed t) (fitted : Fitted t k x y) where
   abbrev new : ℕ
@@ -77,12 +77,10 @@ module _ (t : Task) (k x y z : ℕ) (formed : WellFormed t) (fitted : Fitted t k
   cell-after r kind =
       kind .shape (taskAfter t k x y z) i (r % slots)
       ∙ rw (
-        masks-after t k x y z formed fitted (deleteKind - kindAtRank r) a,
-        kind .mask,
-        has-grown (eqb k (kindAtRank r) && eqb a x) (cellMask (t .table) (kindAtRank r) a) y f small,
-        and-or (eqb i 0) (has (cellMask (t .table) (kindAtRank r) a) f) (eqb k (kindAtRank r) && eqb a x && eqb f y),
+        has-after t k x y z formed fitted (kindAtRank r) a f kind,
+        and-or (eqb i 0) (has (cellSet (t .table) (kindAtRank r) a) f) (eqb k (kindAtRank r) && eqb a x && eqb f y),
       )
-      (grown-piece (eqb i 0 && has (cellMask (t .table) (kindAtRank r) a) f) (eqb i 0 && (eqb k (kindAtRank r) && eqb a x && eqb f y))
+      (grown-piece (eqb i 0 && has (cellSet (t .table) (kindAtRank r) a) f) (eqb i 0 && (eqb k (kindAtRank r) && eqb a x && eqb f y))
       (kindAtRank r ∷ a ∷ f ∷ []) (recordBytes k x y) (pieceAt t r) r new here back (λ _. sym (kind .shape t i (r % slots))))
     where
       i : ℕ
@@ -93,12 +91,6 @@ module _ (t : Task) (k x y z : ℕ) (formed : WellFormed t) (fitted : Fitted t k
 
       f : ℕ
       f = r % slots % byteRoom
-
-      small : (eqb k (kindAtRank r) && eqb a x) ≡ true → y < width
-      small e =
-          let same = ap positionOf (eqb-true k (kindAtRank r) (both (eqb k (kindAtRank r)) (eqb a x) e .0)) in
-          let less = fitted .cell (omega arith) (omega arith) in
-          let most = formed .facts-high in omega arith
 
       here : (eqb i 0 && (eqb k (kindAtRank r) && eqb a x && eqb f y)) ≡ true → (kindAtRank r ∷ a ∷ f ∷ [] ≡ recordBytes k x y) × (r ≡ new)
       here e =
@@ -111,7 +103,7 @@ module _ (t : Task) (k x y z : ℕ) (formed : WellFormed t) (fitted : Fitted t k
           let action = eqb-true a x (firsts .1) in
           let fact = eqb-true f y (tests .1) in
           let low : positionOf needKind ≤ positionOf k = omega arith in
-          let high : positionOf k ≤ positionOf deleteKind = omega arith in
+          let high : positionOf k ≤ positionOf lockKind = omega arith in
           let slot = fitted .cell-slot low high in
           let first = fitted .first low high in
           let within = fitted .same-run (omega (arith, order)) in
@@ -123,7 +115,7 @@ module _ (t : Task) (k x y z : ℕ) (formed : WellFormed t) (fitted : Fitted t k
           let same = sym (d .kind) in
           let position = ap positionOf same in
           let low : positionOf needKind ≤ positionOf k = omega arith in
-          let high : positionOf k ≤ positionOf deleteKind = omega arith in
+          let high : positionOf k ≤ positionOf lockKind = omega arith in
           let slot = fitted .cell-slot low high in
           let first = fitted .first low high in
           let within = fitted .same-run (omega (arith, order)) in

@@ -11,12 +11,12 @@ use borrow.Author.Tests.{eqb-true, eqb-false, eq-eqb, ne-eqb, leb-false, ltb-fal
 use Rattle.table.specs.Tasks.{countOf, WellFormed}
 use Rattle.table.proofs.FlagLaws.{or-neither}
 use Rattle.table.specs.declared.Task.{Task}
-use Rattle.taskformat.specs.Format.{sizesKind, runKind, startKind, deleteKind, stepKind, endKind, isCellKind, isFactKind, positionOf}
+use Rattle.taskformat.specs.Format.{sizesKind, runKind, startKind, lockKind, stepKind, endKind, isCellKind, isFactKind, positionOf}
 use Rattle.taskformat.specs.Reading.{Seen, lastRun, kindAt, byteAt, bodyAt, disordered, runsAfter, seenAfter}
 use Rattle.taskformat.proofs.Ranks.{slots, rank, pieceAt}
 use Rattle.taskformat.proofs.PositionLaws.{order, position-known, one-kind}
 use Rattle.taskformat.proofs.Families.{FactKind, CellKind, family-between}
-use Rattle.taskformat.proofs.Fitting.{Fitted, fitted, fitted-known, in-last-run, before-steps, runOf, slotOf, recordRank}
+use Rattle.taskformat.proofs.Fitting.{OnNeed, on-need, Fitted, fitted, fitted-known, in-last-run, before-steps, runOf, slotOf, recordRank}
 use Rattle.taskformat.proofs.RunsAfter.{last-after, counts-after}
 use Rattle.taskformat.proofs.OneMore.{taskAfter, formed-after}
 use Rattle.taskformat.proofs.RecordsAfter.{piece-after}
@@ -33,13 +33,13 @@ pub record Standing (seen : Seen) (slot : ℕ) : Type 0 where
   pub low : positionOf sizesKind ≤ positionOf (seen .kind)
   pub high : positionOf (seen .kind) < positionOf endKind
   pub small : slot < slots
-  pub ordered : positionOf startKind ≤ positionOf (seen .kind) → positionOf (seen .kind) ≤ positionOf deleteKind → slot ≡ seen .body
+  pub ordered : positionOf startKind ≤ positionOf (seen .kind) → positionOf (seen .kind) ≤ positionOf lockKind → slot ≡ seen .body
   pub steps : seen .kind ≡ stepKind → slot + 1 ≡ countOf (seen .task .runs) (lastRun (seen .task .runs))
   pub above : (r : ℕ) → lastRank seen slot < r → pieceAt (seen .task) r ≡ []
 
 -- ---- it comes later than the last record
 
-ordered-kind : (k : ℕ) → positionOf startKind ≤ positionOf k → positionOf k ≤ positionOf deleteKind → (isFactKind k || isCellKind k) ≡ true
+ordered-kind : (k : ℕ) → positionOf startKind ≤ positionOf k → positionOf k ≤ positionOf lockKind → (isFactKind k || isCellKind k) ≡ true
 ordered-kind k l h = by (family-between k l h)
   where
     by : FactKind k ⊎ CellKind k → (isFactKind k || isCellKind k) ≡ true
@@ -50,7 +50,7 @@ ordered-kind k l h = by (family-between k l h)
 record Ordered (seen : Seen) (k b : ℕ) : Type 0 where
   up : (k ≡ runKind → ⊥) → positionOf (seen .kind) ≤ positionOf k
   first : isCellKind k ≡ true → lastRun (seen .task .runs) ≡ 0
-  ascends : k ≡ seen .kind → positionOf startKind ≤ positionOf k → positionOf k ≤ positionOf deleteKind → seen .body < b
+  ascends : k ≡ seen .kind → positionOf startKind ≤ positionOf k → positionOf k ≤ positionOf lockKind → seen .body < b
 
 ordered-parts : (seen : Seen) (k b : ℕ) → disordered seen k b ≡ false → Ordered seen k b
 unfolding disordered
@@ -69,8 +69,8 @@ module _ (seen : Seen) (slot k x y z : ℕ) (stands : Standing seen slot) (tells
   abbrev next : ℕ
   next = recordRank (seen .task) k x y
 
-  -- b is the body as one number; for kinds 2 to 6 it is the place within the kind.
-  pub later : (b : ℕ) → (positionOf startKind ≤ positionOf k → positionOf k ≤ positionOf deleteKind → slotOf (seen .task) k x y ≡ b)
+  -- b is the body as one number; for kinds 2 to 6 and 10 it is the place within the kind.
+  pub later : (b : ℕ) → (positionOf startKind ≤ positionOf k → positionOf k ≤ positionOf lockKind → slotOf (seen .task) k x y ≡ b)
       → disordered seen k b ≡ false
       → lastRank seen slot < next
   later b same e = at (eqb k runKind) (eqb k (seen .kind)) (eqb k stepKind) refl refl refl
@@ -118,14 +118,14 @@ module _ (seen : Seen) (slot k x y z : ℕ) (stands : Standing seen slot) (tells
       last : ℕ
       last = lastRun (seen .task .runs)
 
-  pub stands-after : (b : ℕ) → (positionOf startKind ≤ positionOf k → positionOf k ≤ positionOf deleteKind → slotOf (seen .task) k x y ≡ b)
-      → lastRank seen slot < next
+  pub stands-after : (b : ℕ) → (positionOf startKind ≤ positionOf k → positionOf k ≤ positionOf lockKind → slotOf (seen .task) k x y ≡ b)
+      → lastRank seen slot < next → OnNeed (seen .task) k x y
       → Standing (record { task = taskAfter (seen .task) k x y z; kind = k; body = b }) (slotOf (seen .task) k x y)
   unfolding taskAfter
-  stands-after b same after =
+  stands-after b same after need =
       let last = last-after (seen .task) k x y (stands .formed) tells in
       record {
-        formed = formed-after (seen .task) k x y z (stands .formed) tells;
+        formed = formed-after (seen .task) k x y z (stands .formed) tells need;
         low = omega arith;
         high = tells .last;
         small = tells .small;
@@ -137,7 +137,7 @@ module _ (seen : Seen) (slot k x y z : ℕ) (stands : Standing seen slot) (tells
 -- ---- the body as one number
 
 pub body-slot : (s : List ℕ) (at : ℕ) (t : Task) → Fitted t (kindAt s at) (byteAt s at 0) (byteAt s at 1)
-    → positionOf startKind ≤ positionOf (kindAt s at) → positionOf (kindAt s at) ≤ positionOf deleteKind
+    → positionOf startKind ≤ positionOf (kindAt s at) → positionOf (kindAt s at) ≤ positionOf lockKind
     → slotOf t (kindAt s at) (byteAt s at 0) (byteAt s at 1) ≡ bodyAt s at
 unfolding bodyAt
 body-slot s at t tells l h = by (family-between (kindAt s at) l h)
@@ -162,13 +162,13 @@ good-next s at seen slot stands clear more =
     let x = byteAt s at 0 in
     let y = byteAt s at 1 in
     let first = ordered-parts seen k (bodyAt s at) (clear .ordered) .first in
-    let tells = fitted (seen .task) k x y (stands .formed)
-    (fits seen k x y (stands .low) (clear .known) (clear .placed) (clear .inside) first (clear .runs) (clear .room) more) in
+    let fit = fits seen k x y (stands .low) (clear .known) (clear .placed) (clear .inside) first (clear .runs) (clear .locked) (clear .room) more in
+    let tells = fitted (seen .task) k x y (stands .formed) fit in
     let same = body-slot s at (seen .task) tells in
     let after = later seen slot k x y (byteAt s at 2) stands tells (bodyAt s at) same (clear .ordered) in
     record {
       tells = tells;
       rank = rw (last-after (seen .task) k x y (stands .formed) tells);
       later = after;
-      stands = stands-after seen slot k x y (byteAt s at 2) stands tells (bodyAt s at) same after;
+      stands = stands-after seen slot k x y (byteAt s at 2) stands tells (bodyAt s at) same after (on-need (seen .task) k x y fit);
     }

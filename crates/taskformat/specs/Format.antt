@@ -1,4 +1,4 @@
--- The file of a task, as a plain function from tasks to bytes: document 01, "The task file"; 02, request 1.
+-- The file of a task, as a plain function from tasks to bytes: document 01, "The task file"; 02, requests 1 and 6.
 use mathlib.Core.Bool.{Bool, cond, _||_, _&&_}
 use mathlib.Core.List.{List, [], _∷_, _++_}
 use Prim.Native.Nat.{ℕ, suc, _-_}
@@ -12,7 +12,7 @@ use Rattle.table.specs.declared.Runs.{Runs}
 
 -- The kinds of record, and the bytes of each kind's body:
 -- 1 F, A, L; 2 start fact; 3 goal fact; 4, 5, 6 need, add, delete with action and fact; 7 next step; 8 end;
--- 9 a further run (02, request 1).
+-- 9 a further run (02, request 1); 10 a lock, with action and fact (02, request 6).
 abbrev pub sizesKind : ℕ
 sizesKind = 1
 
@@ -40,14 +40,18 @@ endKind = 8
 abbrev pub runKind : ℕ
 runKind = 9
 
+abbrev pub lockKind : ℕ
+lockKind = 10
+
 -- No record yet.
 abbrev pub noKind : ℕ
 noKind = 0
 
 -- "Kinds never go down": the kinds in the order that a file has them, which is this list and not that of their numbers. Each further run
--- begins the order anew, with its kind 9: "after it come kinds 2, 3 and 7 for that run in the usual order" (02, request 1).
+-- begins the order anew, with its kind 9: "after it come kinds 2, 3 and 7 for that run in the usual order" (02, request 1). Kind 10 "stands after
+-- kind 6 and before kind 7" (02, request 6).
 unfoldable pub fileOrder : List ℕ
-fileOrder = noKind ∷ sizesKind ∷ runKind ∷ startKind ∷ goalKind ∷ needKind ∷ addKind ∷ deleteKind ∷ stepKind ∷ endKind ∷ []
+fileOrder = noKind ∷ sizesKind ∷ runKind ∷ startKind ∷ goalKind ∷ needKind ∷ addKind ∷ deleteKind ∷ lockKind ∷ stepKind ∷ endKind ∷ []
 
 -- The first place of a number in a list; the list's length where it has none.
 unfoldable pub firstPlace : List ℕ → ℕ → ℕ
@@ -62,11 +66,11 @@ unfoldable pub kindIn : ℕ → ℕ
 kindIn p = getD fileOrder p noKind
 
 unfoldable pub isKind : ℕ → Bool
-isKind k = leb sizesKind k && leb k runKind
+isKind k = leb sizesKind k && leb k lockKind
 
--- Need, add or delete: a cell of the table, with an action and a fact.
+-- Need, add, delete or lock: a cell of the table, with an action and a fact.
 unfoldable pub isCellKind : ℕ → Bool
-isCellKind k = leb needKind k && leb k deleteKind
+isCellKind k = (leb needKind k && leb k deleteKind) || eqb k lockKind
 
 -- Start or goal: a fact alone.
 unfoldable pub isFactKind : ℕ → Bool
@@ -104,6 +108,7 @@ fileOf t =
     cellRecords needKind (t .table .facts) (t .table .actions) (t .table .needs) ++
     cellRecords addKind (t .table .facts) (t .table .actions) (t .table .adds) ++
     cellRecords deleteKind (t .table .facts) (t .table .actions) (t .table .deletes) ++
+    cellRecords lockKind (t .table .facts) (t .table .actions) (t .table .locks) ++
     stepRecords (t .runs) 0 ++
     gather (λ i. furtherRun t (suc i)) (t .runs .many - 1) ++
     (endKind ∷ [])

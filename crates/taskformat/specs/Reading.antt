@@ -1,6 +1,6 @@
 -- What reading a file gives, for every byte string: document 01, "The task file" and "Refusal numbers".
 -- "Order in a file: the first faulty record; within it 1 (no kind byte), 2, 3, 1 (short body), 4, 5, 6, 7; 8 after a good end."
--- 02, request 1: 16 "after 6 and before 7"; 02, request 2: which byte is wrong.
+-- 02, request 1: 16 "after 6 and before 7"; 02, request 2: which byte is wrong; 02, request 6: 18 "after 6 and 16".
 use mathlib.Core.Bool.{Bool, true, cond, not, _||_, _&&_}
 use mathlib.Core.List.{List, [], _∷_}
 use mathlib.Core.Logic.{_⊎_}
@@ -8,7 +8,8 @@ use mathlib.Core.Path.{_≡_}
 use Prim.Native.Nat.{ℕ, _+_, _-_, _*_, _<_}
 use lib.Dec.{eqb, leb, ltb}
 use lib.ListN.{length, getD, set, replicate}
-use Rattle.table.specs.Refusals.{Check, Refusal, refuseAt, firstOf, accepted, noEnd, unknownKind, sizesMisplaced, sizeOutside, numberOutside, notAscending, tooManyRuns, tooManySteps, bytesAfterEnd}
+use Rattle.facts.specs.Sets.{has}
+use Rattle.table.specs.Refusals.{Check, Refusal, refuseAt, firstOf, accepted, noEnd, unknownKind, sizesMisplaced, sizeOutside, numberOutside, notAscending, tooManyRuns, lockWithoutNeed, tooManySteps, bytesAfterEnd}
 use Rattle.table.specs.Setting.{setIn}
 use Rattle.table.specs.Sizes.{maxFacts, maxActions, maxRuns, maxSteps, allSteps, maxLimit}
 use Rattle.table.specs.Tasks.{countOf}
@@ -16,12 +17,20 @@ use Rattle.table.specs.declared.Task.{Task}
 use Rattle.table.specs.declared.Table.{Table}
 use Rattle.table.specs.declared.Runs.{Runs}
 use Rattle.table.specs.declared.TaskReply.{TaskReply}
-use Rattle.taskformat.specs.Format.{sizesKind, startKind, goalKind, needKind, addKind, deleteKind, stepKind, endKind, runKind, isKind, isCellKind, isFactKind, bodyLength, noKind, positionOf}
+use Rattle.taskformat.specs.Format.{sizesKind, startKind, goalKind, needKind, addKind, deleteKind, stepKind, endKind, runKind, lockKind, isKind, isCellKind, isFactKind, bodyLength, noKind, positionOf}
 
 -- A task of zeros: what a refused read returns.
 abbrev pub noTask : Task
 noTask = record {
-  table = record { facts = 0; actions = 0; limit = 0; needs = replicate maxActions 0; adds = replicate maxActions 0; deletes = replicate maxActions 0 };
+  table = record {
+    facts = 0;
+    actions = 0;
+    limit = 0;
+    needs = replicate maxActions 0;
+    adds = replicate maxActions 0;
+    deletes = replicate maxActions 0;
+    locks = replicate maxActions 0;
+  };
   runs = record { many = 0; starts = replicate maxRuns 0; goals = replicate maxRuns 0; counts = replicate maxRuns 0; steps = replicate allSteps 0 };
 }
 
@@ -69,8 +78,8 @@ firstOutside t kind x = (isFactKind kind && leb (t .facts) x) || ((isCellKind ki
 unfoldable pub outside : Table → ℕ → ℕ → ℕ → Bool
 outside t kind x y = firstOutside t kind x || (isCellKind kind && leb (t .facts) y)
 
--- 6: "kind goes down, or body doesn't ascend" (within each of kinds 2 to 6). Kind 9 begins the order anew, and "Kinds 4 to 6 after a kind 9
--- get 6" (02, request 1): either way it is the kind that is out of order.
+-- 6: "kind goes down, or body doesn't ascend" (within each of kinds 2 to 6 and 10). Kind 9 begins the order anew, and "Kinds 4 to 6 after a
+-- kind 9 get 6" (02, request 1), kind 10 "like the other table kinds" (02, request 6): either way it is the kind that is out of order.
 abbrev pub kindDisordered : Seen → ℕ → Bool
 kindDisordered seen kind =
     (not (eqb kind runKind) && ltb (positionOf kind) (positionOf (seen .kind))) || (isCellKind kind && ltb 0 (lastRun (seen .task .runs)))
@@ -78,6 +87,10 @@ kindDisordered seen kind =
 unfoldable pub disordered : Seen → ℕ → ℕ → Bool
 disordered seen kind body =
     kindDisordered seen kind || (eqb kind (seen .kind) && (isFactKind kind || isCellKind kind) && leb body (seen .body))
+
+-- 18: a "lock .. on a cell that isn't a need", of the needs read; they all stand before the locks (02, request 6).
+unfoldable pub lockStray : Table → ℕ → ℕ → ℕ → Bool
+lockStray t kind x y = eqb kind lockKind && not (has (getD (t .needs) x 0) y)
 
 -- Which byte of the record at a place is wrong, by the number of its refusal, counted from the record's start, its kind byte: of 5 "the first number
 -- that is outside", of 6 "the kind byte if the kind is out of order and the first body byte otherwise" (02, request 2), of any other the start (01).
@@ -110,6 +123,7 @@ faultsAt s at seen =
     fault (outside (seen .task .table) kind (byteAt s at 0) (byteAt s at 1)) numberOutside ∷
     fault (disordered seen kind (bodyAt s at)) notAscending ∷
     fault (eqb kind runKind && leb maxRuns (seen .task .runs .many)) tooManyRuns ∷
+    fault (lockStray (seen .task .table) kind (byteAt s at 0) (byteAt s at 1)) lockWithoutNeed ∷
     fault (eqb kind stepKind && leb maxSteps (countOf (seen .task .runs) (lastRun (seen .task .runs)))) tooManySteps ∷ []
   where
     kind : ℕ
@@ -127,6 +141,7 @@ tableAfter t kind x y z = record {
   needs = cond (eqb kind needKind) (setIn (t .needs) x y true) (t .needs);
   adds = cond (eqb kind addKind) (setIn (t .adds) x y true) (t .adds);
   deletes = cond (eqb kind deleteKind) (setIn (t .deletes) x y true) (t .deletes);
+  locks = cond (eqb kind lockKind) (setIn (t .locks) x y true) (t .locks);
 }
 
 -- A start fact, a goal fact and a step are of the run that was opened last.
