@@ -98,9 +98,9 @@ code-permitted c f code h =
     let action : actionOf (codeNumber f code) ≡ codeAction code = omega arith in
     permitted-permits c (codeNumber f code) ∙ rw (fact, kind, action)
 
--- Exactly the permitted repairs: dropped deletes and needs that are there, and effects that are not.
+-- Exactly the permitted repairs: dropped deletes that are there, effects that are not, and dropped needs that are there and not locked.
 pub fullest-is : (col : Column) → col .actions ≤ maxActions → (s : Choice) → s .deletes ≡ shared (below (col .actions)) (col .deletes)
-    → s .adds ≡ removed (below (col .actions)) (col .adds) → s .needs ≡ shared (below (col .actions)) (col .needs) → Fullest col s
+    → s .adds ≡ removed (below (col .actions)) (col .adds) → s .needs ≡ shared (below (col .actions)) (removed (col .needs) (col .locks)) → Fullest col s
 unfolding inChoice permits cellsIn
 fullest-is col high s d a n code h =
     let x = codeAction code in
@@ -110,7 +110,8 @@ fullest-is col high s d a n code h =
     (has-by-kind (codeKind code) _ _ _ x (ltb x (col .actions)) _ _ _
     (has-shared (below (col .actions)) (col .deletes) x ∙ ap (λ b. b && has (col .deletes) x) all)
     (has-removed (below (col .actions)) (col .adds) x ∙ ap (λ b. b && not (has (col .adds) x)) all)
-    (has-shared (below (col .actions)) (col .needs) x ∙ ap (λ b. b && has (col .needs) x) all))
+    (has-shared (below (col .actions)) (removed (col .needs) (col .locks)) x ∙
+    (λ j. all j && has-removed (col .needs) (col .locks) x j)))
   where
     least : {m : ℕ} → m ≤ maxActions → min m width ≡ m
     least l = omega arith
@@ -162,6 +163,7 @@ module _ (t : Task) (col : Column) (shows : Shows t col) (inside : col .fact < t
     needs = λ a. sym (shows .needs a);
     adds = λ a. sym (shows .adds a);
     deletes = λ a. sym (shows .deletes a);
+    locks = λ a. sym (shows .locks a);
   }
 
   same-courses : SameCoursesAt (col .fact) (coursesOf t) (coursesIn col (t .runs .counts) (t .runs .steps))

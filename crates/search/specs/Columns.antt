@@ -7,18 +7,20 @@ use Rattle.table.specs.Sizes.{maxActions, maxSteps, maxRuns}
 use Rattle.table.specs.Strips.{Cells, Course, Courses}
 use Rattle.table.specs.Answer.{Keeps}
 
--- One fact's column: the actions that need it, add it and delete it, and the runs that have it at the start and as a goal, as masks.
+-- One fact's column: the actions that need it, add it and delete it, those whose need of it is locked, and the runs that have it at the start
+-- and as a goal, as masks.
 pub record Column : Type 0 where
   pub fact : ℕ
   pub actions : ℕ
   pub needs : ℕ
   pub adds : ℕ
   pub deletes : ℕ
+  pub locks : ℕ
   pub runs : ℕ
   pub start : ℕ
   pub goal : ℕ
 
--- The column that eight numbers are, by their places.
+-- The column that nine numbers are, by their places.
 abbrev pub columnIn : List ℕ → Column
 columnIn l = record {
   fact = getD l 0 0;
@@ -26,9 +28,10 @@ columnIn l = record {
   needs = getD l 2 0;
   adds = getD l 3 0;
   deletes = getD l 4 0;
-  runs = getD l 5 0;
-  start = getD l 6 0;
-  goal = getD l 7 0;
+  locks = getD l 5 0;
+  runs = getD l 6 0;
+  start = getD l 7 0;
+  goal = getD l 8 0;
 }
 
 unfoldable pub cellsIn : Column → Cells
@@ -38,6 +41,7 @@ cellsIn col = record {
   needs = λ a f. has (col .needs) a;
   adds = λ a f. has (col .adds) a;
   deletes = λ a f. has (col .deletes) a;
+  locks = λ a f. has (col .locks) a;
 }
 
 -- Run i, which has so many steps: they stand from place 64i on.

@@ -33,9 +33,10 @@ pub record LastDelete (col : Column) (step : ℕ → ℕ) (s : Choice) (j i : �
   pub since : (k : ℕ) → i ≤ k → k < j → cellsWith col s .deletes (step k) (col .fact) ≡ false
 
 -- "one of: drop the need at j (not for a goal), drop that delete, add f at any step from the deleting one up to j-1": a repair
--- of these, by its code. Step i stands at place i - 1; where looking back met the start, the adds are from the first step on.
+-- of these, by its code. Step i stands at place i - 1; where looking back met the start, the adds are from the first step on. "a conflict
+-- leaves locked needs out" (02, request 6).
 pub data Named (col : Column) (r : Course) (s : Choice) (j : ℕ) : ℕ → Type 0 where
-  need-at : j < r .count → Named col r s j (codeOf dropNeed (r .step j))
+  need-at : j < r .count → has (col .locks) (r .step j) ≡ false → Named col r s j (codeOf dropNeed (r .step j))
   that-delete : (p : ℕ) → LastDelete col (r .step) s j (p + 1) → Named col r s j (codeOf dropDelete (r .step p))
   add-between : (i p : ℕ) → LastDelete col (r .step) s j i → i ≤ p + 1 → p < j → Named col r s j (codeOf addEffect (r .step p))
 

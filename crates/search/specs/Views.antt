@@ -21,12 +21,13 @@ Gathers sets f m = (a : ℕ) → has m a ≡ has (sets a) f
 abbrev pub GathersBelow : (ℕ → ℕ) → ℕ → ℕ → ℕ → Type 0
 GathersBelow sets f n m = (a : ℕ) → has m a ≡ (ltb a n && has (sets a) f)
 
--- The column shows its fact of the task: which actions need, add and delete it, and the runs' starts and goals.
+-- The column shows its fact of the task: which actions need, add and delete it, which needs of it are locked, and the runs' starts and goals.
 pub record Shows (t : Task) (col : Column) : Type 0 where
   pub actions : col .actions ≡ t .table .actions
   pub needs : Gathers (λ a. getD (t .table .needs) a 0) (col .fact) (col .needs)
   pub adds : Gathers (λ a. getD (t .table .adds) a 0) (col .fact) (col .adds)
   pub deletes : Gathers (λ a. getD (t .table .deletes) a 0) (col .fact) (col .deletes)
+  pub locks : Gathers (λ a. getD (t .table .locks) a 0) (col .fact) (col .locks)
   pub runs : col .runs ≡ t .runs .many
   pub start : Gathers (startOf (t .runs)) (col .fact) (col .start)
   pub goal : Gathers (goalOf (t .runs)) (col .fact) (col .goal)

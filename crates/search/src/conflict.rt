@@ -1,6 +1,7 @@
 // The conflict of a candidate at a place where its fact is missing: repairs of which every working list has one, those
 // that contain the candidate and all others (document 01, "A conflict"; source document 000).
 use crate::CELLS;
+use crate::LOCKS;
 use crate::gap;
 use choices::Choice;
 use table::ALL_STEPS;
@@ -75,7 +76,8 @@ pub(crate) fn after_step(j: usize, count: usize) -> usize
     if j < count { j + 1 } else { count }
 }
 
-// "drop the need at j (not for a goal), drop that delete, add f at any step from the deleting one up to j-1"
+// "drop the need at j (not for a goal), drop that delete, add f at any step from the deleting one up to j-1", and "a conflict leaves
+// locked needs out" (02, request 6). So it may be empty, and then no list helps: every list that keeps the fact right has one of it.
 pub(crate) fn conflict(
     col: &[u64; CELLS],
     steps: &[u8; ALL_STEPS],
@@ -97,6 +99,6 @@ pub(crate) fn conflict(
     Choice {
         deletes,
         adds,
-        needs,
+        needs: facts::remove(needs, col[LOCKS]),
     }
 }

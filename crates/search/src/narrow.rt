@@ -2,6 +2,7 @@
 // does not say at which to look: which one it is, is for speed alone, and what is promised is that the fact is missing there.
 use crate::CELLS;
 use crate::GOALS;
+use crate::LOCKS;
 use crate::STARTS;
 use crate::gap;
 use choices::Choice;
@@ -35,12 +36,12 @@ fn opened(open: Choice, a: usize, gone: bool) -> Choice {
     }
 }
 
-// The same with the need of the step at the place itself.
-fn needed(open: Choice, a: usize) -> Choice {
+// The same with the need of the step at the place itself, if that is not locked.
+fn needed(col: &[u64; CELLS], open: Choice, a: usize) -> Choice {
     Choice {
         deletes: open.deletes,
         adds: open.adds,
-        needs: facts::with_fact(0, a),
+        needs: facts::remove(facts::with_fact(0, a), col[LOCKS]),
     }
 }
 
@@ -88,7 +89,7 @@ pub(crate) fn narrowest_gap(
             i,
             count,
             missing,
-            choices::without(needed(open, a), out),
+            choices::without(needed(col, open, a), out),
         );
         if best.left <= 1 {
             return best.at;

@@ -3,6 +3,7 @@ use crate::ACTION_COUNT;
 use crate::ADDS;
 use crate::CELLS;
 use crate::DELETES;
+use crate::LOCKS;
 use crate::NEEDS;
 use choices::Choice;
 use table::ACTIONS;
@@ -52,6 +53,7 @@ pub fn column_of(t: Task, f: usize) -> [u64; CELLS]
     let needs = t.table.needs;
     let adds = t.table.adds;
     let deletes = t.table.deletes;
+    let locks = t.table.locks;
     let starts = t.runs.starts;
     let goals = t.runs.goals;
     [
@@ -60,13 +62,14 @@ pub fn column_of(t: Task, f: usize) -> [u64; CELLS]
         actions_having(needs, f),
         actions_having(adds, f),
         actions_having(deletes, f),
+        actions_having(locks, f),
         t.runs.many as u64,
         runs_having(starts, f),
         runs_having(goals, f),
     ]
 }
 
-// Every permitted repair of the column's fact: if these do not keep it right, nothing does.
+// Every permitted repair of the column's fact, so no locked need: if these do not keep it right, nothing does.
 pub(crate) fn fullest(col: &[u64; CELLS]) -> Choice
     requires { ⌜ columnIn (now col) .actions ≤ maxActions ⌝ }
     ensures { λ r. ⌜ Fullest (columnIn (now (col .entry))) r ⌝ }
@@ -75,6 +78,6 @@ pub(crate) fn fullest(col: &[u64; CELLS]) -> Choice
     Choice {
         deletes: facts::overlap(all, col[DELETES]),
         adds: facts::remove(all, col[ADDS]),
-        needs: facts::overlap(all, col[NEEDS]),
+        needs: facts::overlap(all, facts::remove(col[NEEDS], col[LOCKS])),
     }
 }

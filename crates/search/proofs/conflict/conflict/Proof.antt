@@ -1,4 +1,4 @@
--- `search::conflict::conflict` gives a conflict: its three sets are the actions at the places that ConflictLaws names.
+-- `search::conflict::conflict` gives a conflict: its three sets are the actions at the places that ConflictLaws names, without locked needs.
 use Prim.Native.Nat.{ℕ, _≤_}
 use native.Mathlib.Nat.{le-trans}
 use native.Mathlib.Omega.{arith}
@@ -50,10 +50,16 @@ actions-between-requires-3 c κs =
     let at = start (c .before .before .before .before) in
     (at .pre .0, formed-to at (c .after-step .result) (omega (arith, c .after-step .ensures)))
 
+element-copy-out-remove : tie.Need-element-copy-out-remove
+element-copy-out-remove c = search needs
+
+remove-requires : tie.Need-remove-requires
+remove-requires c κs = tt
+
 returns : tie.Need-returns
 unfolding courseIn
 returns c =
-    let needs = c in
+    let needs = c .before .before in
     let last = needs .before in
     let adds = last .before in
     let deletes = adds .before in
@@ -62,9 +68,9 @@ returns c =
     let at = start back in
     let a = at .args in
     gathered-conflict (columnIn (a .col .now)) (courseIn (columnIn (a .col .now)) (a .count) (a .steps .now) (a .run)) (a .s) (a .j) (back .look-back .result) (place .place-of .result) (last .after-step .result)
-    (deletes .actions-between .result) (adds .actions-between2 .result) (needs .actions-between3 .result) (at .pre .1 .0)
+    (deletes .actions-between .result) (adds .actions-between2 .result) (needs .actions-between3 .result) (c .remove .result) (at .pre .1 .0)
     (at .pre .1 .1) (back .look-back .ensures) (place .place-of .ensures) (last .after-step .ensures) (deletes .actions-between .ensures)
-    (adds .actions-between2 .ensures) (needs .actions-between3 .ensures)
+    (adds .actions-between2 .ensures) (needs .actions-between3 .ensures) (c .remove .ensures)
 
 pub conflict-spec : {M : Type 1} → statement M
 conflict-spec =
@@ -76,4 +82,6 @@ conflict-spec =
     actions-between-requires-2
     after-step-requires
     actions-between-requires-3
+    element-copy-out-remove
+    remove-requires
     returns)

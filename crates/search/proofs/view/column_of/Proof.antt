@@ -13,6 +13,9 @@ actions-having-requires-2 c κs = search needs
 actions-having-requires-3 : tie.Need-actions-having-requires-3
 actions-having-requires-3 c κs = search needs
 
+actions-having-requires-4 : tie.Need-actions-having-requires-4
+actions-having-requires-4 c κs = search needs
+
 runs-having-requires : tie.Need-runs-having-requires
 runs-having-requires c κs = search needs
 
@@ -22,7 +25,8 @@ runs-having-requires-2 c κs = search needs
 returns : tie.Need-returns
 returns c =
     let start = c .before in
-    let deletes = start .before in
+    let locks = start .before in
+    let deletes = locks .before in
     let adds = deletes .before in
     let needs = adds .before in (
       refl,
@@ -31,6 +35,7 @@ returns c =
         needs = needs .actions-having .ensures;
         adds = adds .actions-having2 .ensures;
         deletes = deletes .actions-having3 .ensures;
+        locks = locks .actions-having4 .ensures;
         runs = refl;
         start = start .runs-having .ensures;
         goal = c .runs-having2 .ensures;
@@ -44,6 +49,7 @@ column-of-spec =
     actions-having-requires
     actions-having-requires-2
     actions-having-requires-3
+    actions-having-requires-4
     runs-having-requires
     runs-having-requires-2
     returns)

@@ -24,18 +24,27 @@ element-copy-out-remove c = search needs
 remove-requires : tie.Need-remove-requires
 remove-requires c κs = search needs
 
-element-copy-out-overlap-2 : tie.Need-element-copy-out-overlap-2
-element-copy-out-overlap-2 c = search needs
+element-copy-out-remove-2 : tie.Need-element-copy-out-remove-2
+element-copy-out-remove-2 c = search needs
+
+element-copy-out-remove-3 : tie.Need-element-copy-out-remove-3
+element-copy-out-remove-3 c = search needs
+
+remove-requires-2 : tie.Need-remove-requires-2
+remove-requires-2 c κs = search needs
 
 overlap-requires-2 : tie.Need-overlap-requires-2
 overlap-requires-2 c κs = search needs
 
 returns : tie.Need-returns
 returns c =
-    let all = c .before .before .before .before .before .before in
+    let unlocked = c .before in
+    let adds = unlocked .before .before .before in
+    let deletes = adds .before .before in
+    let all = deletes .before .before in
     fullest-is (columnIn (all .before .before .args .col .now)) (all .before .before .pre) _
-    (c .before .before .before .before .overlap .ensures ∙ rw (all .below-mask .ensures))
-    (c .before .before .remove .ensures ∙ rw (all .below-mask .ensures)) (c .overlap2 .ensures ∙ rw (all .below-mask .ensures))
+    (deletes .overlap .ensures ∙ rw (all .below-mask .ensures)) (adds .remove .ensures ∙ rw (all .below-mask .ensures))
+    (c .overlap2 .ensures ∙ rw (all .below-mask .ensures, unlocked .remove2 .ensures))
 
 pub fullest-spec : {M : Type 1} → statement M
-fullest-spec = tie.close (tie.spec element-copy-out-below-mask below-mask-requires element-copy-out-overlap overlap-requires element-copy-out-remove remove-requires element-copy-out-overlap-2 overlap-requires-2 returns)
+fullest-spec = tie.close (tie.spec element-copy-out-below-mask below-mask-requires element-copy-out-overlap overlap-requires element-copy-out-remove remove-requires element-copy-out-remove-2 element-copy-out-remove-3 remove-requires-2 overlap-requires-2 returns)
