@@ -22,7 +22,7 @@ pub record Clear (s : List ℕ) (at : ℕ) (seen : Seen) : Type 0 where
   pub inside : outside (seen .task .table) (kindAt s at) (byteAt s at 0) (byteAt s at 1) ≡ false
   pub ordered : disordered seen (kindAt s at) (bodyAt s at) ≡ false
   pub runs : (eqb (kindAt s at) runKind && leb maxRuns (seen .task .runs .many)) ≡ false
-  pub locked : lockStray (seen .task .table) (kindAt s at) (byteAt s at 0) (byteAt s at 1) ≡ false
+  pub locked : lockStray (seen .task .table .needs) (kindAt s at) (byteAt s at 0) (byteAt s at 1) ≡ false
   pub room : (eqb (kindAt s at) stepKind && leb maxSteps (countOf (seen .task .runs) (lastRun (seen .task .runs)))) ≡ false
 
 pub clear : (s : List ℕ) (at : ℕ) (seen : Seen) → faultAt s at seen .number ≡ 0 → Clear s at seen

@@ -42,13 +42,13 @@ inside-parts t k x y e =
       second = λ is. leb-false (t .facts) y (rw is at (parts .1));
     }
 
-lock-on-need : (seen : Seen) (k x y : ℕ) → lockStray (seen .task .table) k x y ≡ false → OnNeed (seen .task) k x y
+lock-on-need : (seen : Seen) (k x y : ℕ) → lockStray (seen .task .table .needs) k x y ≡ false → OnNeed (seen .task) k x y
 unfolding lockStray
 lock-on-need seen k x y e lock = not-false (has (getD (seen .task .table .needs) x 0) y) (rw (eq-eqb k lockKind lock) at e)
 
 pub fits : (seen : Seen) (k x y : ℕ) → positionOf sizesKind ≤ positionOf (seen .kind) → isKind k ≡ true → misplaced seen k ≡ false
     → outside (seen .task .table) k x y ≡ false → (isCellKind k ≡ true → lastRun (seen .task .runs) ≡ 0)
-    → (eqb k runKind && leb maxRuns (seen .task .runs .many)) ≡ false → lockStray (seen .task .table) k x y ≡ false
+    → (eqb k runKind && leb maxRuns (seen .task .runs .many)) ≡ false → lockStray (seen .task .table .needs) k x y ≡ false
     → (eqb k stepKind && leb maxSteps (countOf (seen .task .runs) (lastRun (seen .task .runs)))) ≡ false
     → (k ≡ endKind → ⊥) → Fits (seen .task) k x y
 fits seen k x y low known placed inside first runs locked room more = by (family k)

@@ -89,8 +89,8 @@ disordered seen kind body =
     kindDisordered seen kind || (eqb kind (seen .kind) && (isFactKind kind || isCellKind kind) && leb body (seen .body))
 
 -- 18: a "lock .. on a cell that isn't a need", of the needs read; they all stand before the locks (02, request 6).
-unfoldable pub lockStray : Table → ℕ → ℕ → ℕ → Bool
-lockStray t kind x y = eqb kind lockKind && not (has (getD (t .needs) x 0) y)
+unfoldable pub lockStray : List ℕ → ℕ → ℕ → ℕ → Bool
+lockStray needs kind x y = eqb kind lockKind && not (has (getD needs x 0) y)
 
 -- Which byte of the record at a place is wrong, by the number of its refusal, counted from the record's start, its kind byte: of 5 "the first number
 -- that is outside", of 6 "the kind byte if the kind is out of order and the first body byte otherwise" (02, request 2), of any other the start (01).
@@ -123,7 +123,7 @@ faultsAt s at seen =
     fault (outside (seen .task .table) kind (byteAt s at 0) (byteAt s at 1)) numberOutside ∷
     fault (disordered seen kind (bodyAt s at)) notAscending ∷
     fault (eqb kind runKind && leb maxRuns (seen .task .runs .many)) tooManyRuns ∷
-    fault (lockStray (seen .task .table) kind (byteAt s at 0) (byteAt s at 1)) lockWithoutNeed ∷
+    fault (lockStray (seen .task .table .needs) kind (byteAt s at 0) (byteAt s at 1)) lockWithoutNeed ∷
     fault (eqb kind stepKind && leb maxSteps (countOf (seen .task .runs) (lastRun (seen .task .runs)))) tooManySteps ∷ []
   where
     kind : ℕ
