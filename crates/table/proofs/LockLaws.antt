@@ -1,5 +1,5 @@
--- Locks (02, request 6): no permitted list drops a locked need, and each locked need stands in the table with such a list applied. Assumes
--- nothing.
+-- Locks (02, request 6): no list of permitted repairs drops a locked need, and each locked need stands in the table with such a list applied.
+-- Assumes nothing.
 use mathlib.Core.Bool.{Bool, true, false, not, _&&_, and-false, false≢true}
 use mathlib.Core.List.{List}
 use mathlib.Core.Path.{_≡_, refl, sym, ap, _∙_}
@@ -9,13 +9,12 @@ use lib.Dec.{ltb}
 use borrow.Author.Tests.{ltb-true}
 use Rattle.table.proofs.FlagLaws.{and-right}
 use Rattle.table.proofs.RepairNumbers.{permitted-number}
-use Rattle.table.specs.Answer.{Permitted}
 use Rattle.table.specs.Order.{isIn}
 use Rattle.table.specs.Repairs.{dropNeed, numberOf, permits, permitted, chosen, repaired}
 use Rattle.table.specs.Sizes.{maxActions}
 use Rattle.table.specs.Strips.{Cells}
 
-module _ (c : Cells) (l : List ℕ) (p : Permitted c l) (a f : ℕ) (locked : c .locks a f ≡ true) where
+module _ (c : Cells) (l : List ℕ) (each : (n : ℕ) → isIn l n ≡ true → permitted c n ≡ true) (a f : ℕ) (locked : c .locks a f ≡ true) where
   -- "no list may drop them"
   pub locked-out : a < maxActions → isIn l (numberOf f dropNeed a) ≡ false
   unfolding permits
@@ -23,7 +22,7 @@ module _ (c : Cells) (l : List ℕ) (p : Permitted c l) (a f : ℕ) (locked : c 
     where
       pick : (b : Bool) → isIn l (numberOf f dropNeed a) ≡ b → b ≡ false
       pick true e =
-          let said : permits c f dropNeed a ≡ true = sym (permitted-number c f dropNeed a (omega arith) low) ∙ p .each (numberOf f dropNeed a) e in
+          let said : permits c f dropNeed a ≡ true = sym (permitted-number c f dropNeed a (omega arith) low) ∙ each (numberOf f dropNeed a) e in
           let free : (c .needs a f && not (c .locks a f)) ≡ true = and-right (ltb f (c .facts) && ltb a (c .actions)) _ said in
           let shut : (c .needs a f && not (c .locks a f)) ≡ false = rw locked (and-false (c .needs a f)) in
           absurd (false≢true (sym shut ∙ free))

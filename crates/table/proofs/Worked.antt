@@ -128,6 +128,6 @@ worked =
       locked-first = λ m w.
           false≢true
           (w .valid 0 (omega arith) .may-run 0 (omega arith) 63
-          (locked-stands (cellsOf (lockedFirst .table)) m (w .permitted) 0 63 refl refl));
+          (locked-stands (cellsOf (lockedFirst .table)) m (w .permitted .each) 0 63 refl refl));
       stray-lock = refl;
     }
