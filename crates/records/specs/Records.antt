@@ -44,21 +44,26 @@ recordAt s at =
 unfoldable pub bodyOf : List ℕ → ℕ → List ℕ
 bodyOf s at = take (recordAt s at .length) (drop (recordAt s at .start) s)
 
--- The words of the faults. What has been seen, of what is known of it in numbers and the seven arrays.
-abbrev pub seenWith : Known → (needs adds deletes starts goals counts steps : List ℕ) → Seen
-seenWith k needs adds deletes starts goals counts steps = record {
+-- The words of the faults. What has been seen, of what is known of it in numbers and the eight arrays.
+abbrev pub seenWith : Known → (needs adds deletes locks starts goals counts steps : List ℕ) → Seen
+seenWith k needs adds deletes locks starts goals counts steps = record {
   task = record {
-    table = record { facts = k .facts; actions = k .actions; limit = k .limit; needs = needs; adds = adds; deletes = deletes };
+    table = record { facts = k .facts; actions = k .actions; limit = k .limit; needs = needs; adds = adds; deletes = deletes; locks = locks };
     runs = record { many = k .runs; starts = starts; goals = goals; counts = counts; steps = steps };
   };
   kind = k .kind;
   body = k .body;
 }
 
--- The numbers alone are all that a fault looks at: of the counts it looks at that of the last run only, so that all may be that.
-abbrev pub seenOf : Known → Seen
-seenOf k = seenWith k [] [] [] [] [] (replicate (k .runs + 1) (k .count)) []
+-- A fault looks at the numbers and, for a lock, at the needs (02, request 6): of the counts it looks at that of the last run only, so that
+-- all may be that.
+abbrev pub seenBy : Known → List ℕ → Seen
+seenBy k needs = seenWith k needs [] [] [] [] [] (replicate (k .runs + 1) (k .count)) []
 
--- The checks of a record behind 1, 2, 3 and 1: those of a body that is there, 4, 5, 6, 16 and 7.
+-- Every fault but 18 looks at the numbers alone.
+abbrev pub seenOf : Known → Seen
+seenOf k = seenBy k []
+
+-- The checks of a record behind 1, 2, 3 and 1: those of a body that is there, 4, 5, 6, 16, 18 and 7.
 unfoldable pub bodyFaults : List ℕ → ℕ → Seen → List Check
 bodyFaults s at seen = drop 4 (faultsAt s at seen)

@@ -1,5 +1,6 @@
 // The first fault of the record at a place (document 01, "Refusal numbers": "within it 1 (no kind byte), 2, 3, 1 (short
-// body), 4, 5, 6, 7"; 02, request 1: 16 "after 6 and before 7"), and which of its bytes is wrong (02, request 2).
+// body), 4, 5, 6, 7"; 02, request 1: 16 "after 6 and before 7"; 02, request 6: 18 "after 6 and 16"), and which of its bytes is wrong (02,
+// request 2).
 use crate::kinds;
 use crate::known::Known;
 use crate::known::last_run;
@@ -12,8 +13,8 @@ use table::STEPS;
 use table::refusals;
 ghost use mathlib.Core.Path.{_≡_};
 ghost use Rattle.table.specs.Refusals.{firstOf};
-ghost use Rattle.taskformat.specs.Reading.{misplaced, sizesWrong, firstOutside, outside, kindDisordered, disordered, wrongByte, faultAt};
-ghost use Rattle.records.specs.Records.{seenOf, bodyFaults};
+ghost use Rattle.taskformat.specs.Reading.{misplaced, sizesWrong, firstOutside, outside, kindDisordered, disordered, lockStray, wrongByte, faultAt};
+ghost use Rattle.records.specs.Records.{seenOf, seenBy, bodyFaults};
 
 // The first fault of a record: its number and its place; 0 and 0 where it is good.
 pub struct Fault {
@@ -73,9 +74,22 @@ fn is_disordered(known: Known, kind: usize, body: usize) -> bool
             & (body <= known.body))
 }
 
-// The first of the faults that a whole body can have: 4, 5, 6, 16, 7; 0 where it has none.
-fn body_fault(s: &[u8], at: usize, known: Known) -> usize
-    ensures { λ r. ⌜ r ≡ firstOf (bodyFaults (now (s .entry)) at (seenOf known)) .number ⌝ }
+// 18: a lock on a cell that is not a need (02, request 6); x is the action, y the fact.
+fn is_stray_lock(needs: &[u64], kind: usize, x: usize, y: usize) -> bool
+    ensures { λ r. ⌜ r ≡ lockStray (now (needs .entry)) kind x y ⌝ }
+{
+    if kind != kinds::LOCK {
+        return false;
+    }
+    if needs.len() <= x {
+        return true;
+    }
+    !facts::contains(needs[x], y)
+}
+
+// The first of the faults that a whole body can have: 4, 5, 6, 16, 18, 7; 0 where it has none.
+fn body_fault(s: &[u8], at: usize, known: Known, needs: &[u64]) -> usize
+    ensures { λ r. ⌜ r ≡ firstOf (bodyFaults (now (s .entry)) at (seenBy known (now (needs .entry)))) .number ⌝ }
 {
     let kind = parts::kind_at(s, at);
     let x = parts::number_at(s, at, 0);
@@ -85,6 +99,7 @@ fn body_fault(s: &[u8], at: usize, known: Known) -> usize
     let misfit = (kind == kinds::SIZES) & sizes_wrong(x, y, z);
     let beyond = is_outside(known, kind, x, y);
     let down = is_disordered(known, kind, body);
+    let stray = is_stray_lock(needs, kind, x, y);
     let ninth = (kind == kinds::RUN) & (RUNS <= known.runs);
     let full = (kind == kinds::STEP) & (STEPS <= known.count);
     if misfit {
@@ -99,6 +114,9 @@ fn body_fault(s: &[u8], at: usize, known: Known) -> usize
     if ninth {
         return refusals::TOO_MANY_RUNS;
     }
+    if stray {
+        return refusals::LOCK_WITHOUT_NEED;
+    }
     if full {
         return refusals::TOO_MANY_STEPS;
     }
@@ -106,8 +124,8 @@ fn body_fault(s: &[u8], at: usize, known: Known) -> usize
 }
 
 // The number of the first fault of the record at a place; 0 where it is good.
-fn fault_number(s: &[u8], at: usize, known: Known) -> usize
-    ensures { λ r. ⌜ r ≡ faultAt (now (s .entry)) at (seenOf known) .number ⌝ }
+fn fault_number(s: &[u8], at: usize, known: Known, needs: &[u64]) -> usize
+    ensures { λ r. ⌜ r ≡ faultAt (now (s .entry)) at (seenBy known (now (needs .entry))) .number ⌝ }
 {
     if s.len() <= at {
         return refusals::NO_END;
@@ -122,7 +140,7 @@ fn fault_number(s: &[u8], at: usize, known: Known) -> usize
     if s.len() - at <= kinds::body_length(kind) {
         return refusals::NO_END;
     }
-    body_fault(s, at, known)
+    body_fault(s, at, known, needs)
 }
 
 // The bytes of a record that can be wrong, counted from its start.
@@ -150,10 +168,11 @@ fn wrong_byte(number: usize, s: &[u8], at: usize, known: Known) -> usize
     KIND_BYTE
 }
 
-pub fn fault_at(s: &[u8], at: usize, known: Known) -> Fault
-    ensures { λ r. ⌜ (r .number ≡ faultAt (now (s .entry)) at (seenOf known) .number) × (r .place ≡ faultAt (now (s .entry)) at (seenOf known) .place) ⌝ }
+// The first fault of the record at a place, after records that have said this in numbers, and these needs.
+pub fn fault_at(s: &[u8], at: usize, known: Known, needs: &[u64]) -> Fault
+    ensures { λ r. ⌜ (r .number ≡ faultAt (now (s .entry)) at (seenBy known (now (needs .entry))) .number) × (r .place ≡ faultAt (now (s .entry)) at (seenBy known (now (needs .entry))) .place) ⌝ }
 {
-    let number = fault_number(s, at, known);
+    let number = fault_number(s, at, known, needs);
     if number == refusals::ACCEPTED {
         return Fault { number, place: 0 };
     }

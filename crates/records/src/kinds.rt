@@ -1,4 +1,4 @@
-// The kinds of record and the length of each kind's body (document 01, "The task file"; 02, request 1).
+// The kinds of record and the length of each kind's body (document 01, "The task file"; 02, requests 1 and 6).
 ghost use mathlib.Core.Path.{_≡_};
 ghost use Rattle.taskformat.specs.Format.{isKind, positionOf, isCellKind, isFactKind, bodyLength};
 
@@ -24,14 +24,17 @@ pub const END: usize = 8;
 // A further run.
 pub const RUN: usize = 9;
 
+// A lock.
+pub const LOCK: usize = 10;
+
 pub fn is_kind(kind: usize) -> bool
     ensures { λ r. ⌜ r ≡ isKind kind ⌝ }
 {
-    (SIZES <= kind) & (kind <= RUN)
+    (SIZES <= kind) & (kind <= LOCK)
 }
 
-// The position that a kind has in a file: 01 numbers the kinds as they come, and a further run begins the order anew right
-// after the sizes. What is no kind comes after them all.
+// The position that a kind has in a file: 01 numbers the kinds as they come, a further run begins the order anew right after the
+// sizes, and a lock stands between deletes and steps. What is no kind comes after them all.
 pub fn position(kind: usize) -> usize
     ensures { λ r. ⌜ r ≡ positionOf kind ⌝ }
 {
@@ -41,14 +44,20 @@ pub fn position(kind: usize) -> usize
     if kind == RUN {
         return SIZES + 1;
     }
-    if kind <= END { kind + 1 } else { RUN + 1 }
+    if kind <= DELETE {
+        return kind + 1;
+    }
+    if kind <= END {
+        return kind + 2;
+    }
+    if kind == LOCK { DELETE + 2 } else { LOCK + 1 }
 }
 
-// Need, add or delete: the body is an action and a fact.
+// Need, add, delete or lock: the body is an action and a fact.
 pub fn is_cell_kind(kind: usize) -> bool
     ensures { λ r. ⌜ r ≡ isCellKind kind ⌝ }
 {
-    (NEED <= kind) & (kind <= DELETE)
+    ((NEED <= kind) & (kind <= DELETE)) | (kind == LOCK)
 }
 
 // Start or goal: the body is a fact.

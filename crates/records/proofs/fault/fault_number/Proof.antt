@@ -10,7 +10,7 @@ use lib.ListN.{length}
 use Rattle.table.specs.Refusals.{Check, Refusal, firstOf}
 use Rattle.taskformat.specs.Format.{isKind, bodyLength}
 use Rattle.taskformat.specs.Reading.{kindAt, nextAt, misplaced, faultsAt}
-use Rattle.records.specs.Records.{seenOf, bodyFaults}
+use Rattle.records.specs.Records.{seenBy, bodyFaults}
 use Rattle.table.proofs.RefusalLaws.{Past}
 use Rattle.records.proofs.fault.fault_number.Statement.{statement}
 use Rattle.records.proofs.fault.fault_number.Tie as tie
@@ -22,14 +22,14 @@ abbrev kind : tie.Start → ℕ
 kind c = kindAt (file c) (c .args .at)
 
 abbrev checks : tie.Start → List Check
-checks c = faultsAt (file c) (c .args .at) (seenOf (c .args .known))
+checks c = faultsAt (file c) (c .args .at) (seenBy (c .args .known) (now (c .args .needs)))
 
 abbrev number : Refusal → ℕ
 number r = r .number
 
 -- The place after the kind is read, from each later place; the entry from it.
 abbrev entry : tie.After-kind-at → tie.Start
-entry c = c .before .before .before
+entry c = c .before .before .before .before
 
 abbrev read₂ : tie.Else2 → tie.After-kind-at
 read₂ c = c .before .before
@@ -45,16 +45,17 @@ known : (c : tie.After-is-kind) → isKind (kind (entry (c .before))) ≡ c .is-
 known c = sym (c .is-kind .ensures ∙ ap isKind (c .before .kind-at .ensures))
 
 placed : (c : tie.After-is-misplaced) → let p = read₂ (c .before) in
-    misplaced (seenOf (entry p .args .known)) (kind (entry p)) ≡ c .is-misplaced .result
+    misplaced (seenBy (entry p .args .known) (now (entry p .args .needs))) (kind (entry p)) ≡ c .is-misplaced .result
+unfolding misplaced
 placed c = rw (← read₂ (c .before) .kind-at .ensures) (sym (c .is-misplaced .ensures))
 
 lasting : (c : tie.After-body-length) → bodyLength (kind (entry (read₄ c))) ≡ c .body-length .result
 lasting c = sym (c .body-length .ensures ∙ ap bodyLength (read₄ c .kind-at .ensures))
 
 -- The checks that have been passed.
-past-end : (c : tie.Else1) → Past (checks (c .before .before)) 1
+past-end : (c : tie.Else1) → Past (checks (c .before .before .before)) 1
 unfolding faultsAt firstOf
-past-end c = rw (lt-leb (length (file (c .before .before))) (c .before .before .args .at) (c .if1 .left))
+past-end c = rw (lt-leb (length (file (c .before .before .before))) (c .before .before .before .args .at) (c .if1 .left))
 
 past-unknown : (c : tie.Else2) → Past (checks (entry (read₂ c))) 2
 unfolding faultsAt firstOf
@@ -72,7 +73,7 @@ past-short c =
 
 returns : tie.Need-returns
 unfolding faultsAt firstOf
-returns c = rw (le-leb (length (file (c .before .before))) (c .before .before .args .at) (c .if1 .taken))
+returns c = rw (le-leb (length (file (c .before .before .before))) (c .before .before .before .args .at) (c .if1 .taken))
 
 kind-at-requires : tie.Need-kind-at-requires
 kind-at-requires c κs = search needs
