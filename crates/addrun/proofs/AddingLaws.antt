@@ -43,6 +43,7 @@ module _ (t : Task) (start goal : ℕ) (steps : List ℕ) where
     needs = s .needs;
     adds = s .adds;
     deletes = s .deletes;
+    locks = s .locks;
     starts = length-set (t .runs .starts) (t .runs .many) start ∙ s .starts;
     goals = length-set (t .runs .goals) (t .runs .many) goal ∙ s .goals;
     counts = length-set (t .runs .counts) (t .runs .many) (length steps) ∙ s .counts;

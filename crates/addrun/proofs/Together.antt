@@ -1,18 +1,19 @@
--- A well-formed task comes back: its table, and its runs put to it one after another, each accepted. Assumes nothing.
-use mathlib.Core.Bool.{false}
+-- A well-formed task comes back without its locks: its table without them, and its runs put to it one after another, each accepted. Assumes
+-- nothing.
+use mathlib.Core.Bool.{false, true≢false}
 use mathlib.Core.Path.{_≡_, refl, sym, ap, _∙_, subst}
 use Prim.Native.Nat.{ℕ, zero, suc, _+_, _-_, _*_, _/_, _<_, _≤_}
 use native.Mathlib.Nat.{le-refl}
 use native.Mathlib.Numerals.{add-one}
 use native.Mathlib.Omega.{arith}
-use lib.ListN.{length, getD, drop, length-drop}
+use lib.ListN.{length, getD, drop, length-drop, length-replicate}
 use lib.Seq.{sets, length-take-le, getD-take, getD-drop}
 use Rattle.facts.specs.Sets.{has}
 use Rattle.facts.proofs.Laws.{has-empty}
 use Rattle.table.proofs.FlagLaws.{by-order}
 use Rattle.table.proofs.Formation.{well-formed}
-use Rattle.table.specs.Sizes.{maxRuns, maxSteps, allSteps}
-use Rattle.table.specs.Tasks.{startOf, goalOf, countOf, stepOf, WellFormed}
+use Rattle.table.specs.Sizes.{maxActions, maxRuns, maxSteps, allSteps}
+use Rattle.table.specs.Tasks.{cellsOf, startOf, goalOf, countOf, stepOf, unlocked, unlockedTask, WellFormed}
 use Rattle.table.specs.declared.Runs.{Runs}
 use Rattle.table.specs.declared.Table.{Table}
 use Rattle.table.specs.declared.Task.{Task}
@@ -83,14 +84,20 @@ module _ (t : Task) (w : WellFormed t) where
   first-built zero l = first-none
   first-built (suc i) l = first-more i (built t i) l (first-built i (omega arith))
 
-  -- ---- the first runs, at least one, make a well-formed task
+  -- ---- the first runs, at least one, make a well-formed task: of no lock is asked that it is on a need
 
-  first-well : (n : ℕ) (r : Runs) → 0 < n → n ≤ t .runs .many → FirstRuns t n r → WellFormed (record { table = t .table; runs = r })
+  no-lock : (a f : ℕ) → cellsOf (unlocked (t .table)) .locks a f ≡ false
+  unfolding cellsOf
+  no-lock a f = rw (front-none (t .table .locks) maxActions (w .shaped .locks) .after a (omega arith)) (has-empty f)
+
+  first-well : (n : ℕ) (r : Runs) → 0 < n → n ≤ t .runs .many → FirstRuns t n r
+      → WellFormed (record { table = unlocked (t .table); runs = r })
   first-well n r low high f = record {
     shaped = record {
       needs = w .shaped .needs;
       adds = w .shaped .adds;
       deletes = w .shaped .deletes;
+      locks = length-replicate {A = ℕ} maxActions 0;
       starts = f .starts .size ∙ w .shaped .starts;
       goals = f .goals .size ∙ w .shaped .goals;
       counts = f .counts .size ∙ w .shaped .counts;
@@ -105,6 +112,7 @@ module _ (t : Task) (w : WellFormed t) where
     many-high = omega (arith, f .many, w .many-high);
     count-high = λ i. front-each (t .runs .counts) (r .counts) n (λ c. c ≤ maxSteps) i (omega arith) (w .count-high i) (f .counts);
     inside = w .inside;
+    locks-needs = λ a f locked. absurd (true≢false (sym locked ∙ no-lock a f));
     start-inside = λ i g l.
         front-each (t .runs .starts) (r .starts) n (λ m. has m g ≡ false) i (has-empty g) (w .start-inside i g l) (f .starts);
     goal-inside = λ i g l. front-each (t .runs .goals) (r .goals) n (λ m. has m g ≡ false) i (has-empty g) (w .goal-inside i g l) (f .goals);
@@ -127,7 +135,7 @@ module _ (t : Task) (w : WellFormed t) where
 
   -- ---- so does what is built, from its first run on
 
-  same-table : (i : ℕ) → built t i .table ≡ t .table
+  same-table : (i : ℕ) → built t i .table ≡ unlocked (t .table)
   unfolding built withRun
   same-table zero = refl
   same-table (suc i) = same-table i
@@ -138,7 +146,7 @@ module _ (t : Task) (w : WellFormed t) where
       subst (λ (b : Table). WellFormed (record { table = b; runs = built t n .runs })) (sym (same-table n))
       (first-well n (built t n .runs) (omega arith) l (first-built n l))
 
-  -- ---- each run is accepted, and after the last one the task is there
+  -- ---- each run is accepted, and after the last one the task without its locks is there
 
   pub accepted-each : (i : ℕ) → i < t .runs .many
       → runAdded (built t i) (startOf (t .runs) i) (goalOf (t .runs) i) (stepsOf t i) ≡ acceptedRead (built t (suc i))
@@ -148,7 +156,7 @@ module _ (t : Task) (w : WellFormed t) where
       (accepted-out (built t i) (startOf (t .runs) i) (goalOf (t .runs) i) (stepsOf t i) (built t (suc i)) refl
       (well-formed (built t (suc i)) (built-well i l)))
 
-  pub together : built t (t .runs .many) ≡ t
+  pub together : built t (t .runs .many) ≡ unlockedTask t
   together = λ k. record {
     table = same-table n k;
     runs = record {
@@ -173,3 +181,10 @@ module _ (t : Task) (w : WellFormed t) where
       unused p h =
           let i = p / maxSteps in
           steps-none i p (omega (arith, w .count-unused i (omega arith))) (omega arith)
+
+  -- Without its locks a well-formed task is one too.
+  pub unlocked-well : WellFormed (unlockedTask t)
+  unlocked-well =
+      let last = t .runs .many - 1 in
+      let all : suc last ≡ t .runs .many = omega (arith, w .many-low) in
+      subst WellFormed (ap (built t) all ∙ together) (built-well last (omega arith))

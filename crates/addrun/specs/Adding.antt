@@ -7,7 +7,7 @@ use lib.ListN.{length, take, drop, set}
 use lib.Seq.{sets}
 use Rattle.table.specs.Refusals.{notWellFormed}
 use Rattle.table.specs.Sizes.{maxSteps}
-use Rattle.table.specs.Tasks.{startOf, goalOf, countOf, formed}
+use Rattle.table.specs.Tasks.{startOf, goalOf, countOf, unlocked, formed}
 use Rattle.table.specs.declared.Task.{Task}
 use Rattle.table.specs.declared.TaskReply.{TaskReply}
 use Rattle.taskformat.specs.Reading.{noTask, acceptedRead}
@@ -33,7 +33,7 @@ abbrev pub refusedRun : Task → TaskReply
 refusedRun t = record { number = notWellFormed; place = 0; task = t }
 
 -- What a call gives: that task where it is well formed, and else 12. So 12 is given for a ninth run, a 65th step, a step that is no action, a
--- fact outside and a limit or a size out of range.
+-- fact outside, a lock that is on no need and a limit or a size out of range.
 unfoldable pub runAdded : Task → ℕ → ℕ → List ℕ → TaskReply
 runAdded t start goal steps =
     cond {A = TaskReply} (formed (withRun t start goal steps)) (acceptedRead (withRun t start goal steps)) (refusedRun t)
@@ -44,7 +44,7 @@ runAdded t start goal steps =
 unfoldable pub stepsOf : Task → ℕ → List ℕ
 stepsOf t i = take (countOf (t .runs) i) (drop (maxSteps * i) (t .runs .steps))
 
--- The table of t, and its first i runs put to it one after another.
+-- The table of t without its locks, which its domain text does not carry (02, request 6), and its first i runs put to it one after another.
 unfoldable pub built : Task → ℕ → Task
-built t zero = record { table = t .table; runs = noTask .runs }
+built t zero = record { table = unlocked (t .table); runs = noTask .runs }
 built t (suc i) = withRun (built t i) (startOf (t .runs) i) (goalOf (t .runs) i) (stepsOf t i)

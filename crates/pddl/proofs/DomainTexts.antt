@@ -1,4 +1,4 @@
--- The texts of the domain tree are the domain texts, each saying its table. Assumes nothing.
+-- The texts of the domain tree are the domain texts, each saying its table without its locks. Assumes nothing.
 use mathlib.Core.Bool.{false}
 use mathlib.Core.List.{List, _++_, append-assoc}
 use mathlib.Core.Path.{_≡_, refl, sym, ap, _∙_, subst}
@@ -11,6 +11,7 @@ use Rattle.facts.proofs.Laws.{has-empty}
 use Rattle.table.specs.Lists.{gather}
 use Rattle.table.specs.Repairs.{byKind, dropDelete, addEffect, dropNeed}
 use Rattle.table.specs.Sizes.{maxActions}
+use Rattle.table.specs.Tasks.{unlocked}
 use Rattle.table.specs.declared.Table.{Table}
 use Rattle.table.proofs.FlagLaws.{cond-by}
 use Rattle.layout.specs.Layouts.{Layout, Says, word, after}
@@ -47,14 +48,14 @@ of-kind P k p q r = cond-by P (eqb k dropDelete) (λ _. p) (λ _. cond-by P (eqb
 
 pub record DomainSaid (limit : ℕ) (v : Said) (t : List ℕ) : Type 0 where
   pub table : Table
-  pub says : aTable table ≡ v
+  pub says : aTable (unlocked table) ≡ v
   pub fits : Domain limit table
   pub text : t ≡ domainText table
 
 -- Behind the predicates.
 record FirstSaid (limit facts : ℕ) (v : Said) (t : List ℕ) : Type 0 where
   table : Table
-  says : aTable table ≡ v
+  says : aTable (unlocked table) ≡ v
   facts-is : table .facts ≡ facts
   limit-is : table .limit ≡ limit
   low : 0 < table .actions
@@ -153,7 +154,7 @@ module _ (limit : ℕ) (table : Table) (d : Domain limit table) where
 
   -- The actions, of which there is one.
   first-made : (further : ℕ) → suc further ≡ table .actions
-      → Says (aTable table) (firstAction limit (table .facts)) (gather (actionOf table) (table .actions) ++ domainEnd)
+      → Says (aTable (unlocked table)) (firstAction limit (table .facts)) (gather (actionOf table) (table .actions) ++ domainEnd)
   unfolding firstAction
   first-made further all =
       rw (← d .limit-is)
@@ -167,7 +168,7 @@ module _ (limit : ℕ) (table : Table) (d : Domain limit table) where
       (begun-next table few needs-of adds-of deletes-of (none-begun (table .adds)) (omega arith) adds-of)
       (begun-next table few needs-of adds-of deletes-of (none-begun (table .deletes)) (omega arith) deletes-of))))
 
-  pub domain-made : Says (aTable table) (domainTree limit) (domainText table)
+  pub domain-made : Says (aTable (unlocked table)) (domainTree limit) (domainText table)
   unfolding domainTree domainText from
   domain-made =
       let lines = table .facts - 1 in
@@ -181,5 +182,5 @@ module _ (limit : ℕ) (table : Table) (d : Domain limit table) where
       (after (from factLine lines 1 ++ (predicatesEnd ++ behind))
       (ap (λ (l : List ℕ). l ++ (predicatesEnd ++ behind)) (ap (gather factLine) (sym all) ∙ sym (from-first factLine (suc lines))) ∙
       append-assoc (factLine 0) (from factLine lines 1) (predicatesEnd ++ behind))
-      (count-made factLine (λ facts. word predicatesEnd (firstAction limit facts)) (aTable table) 63 lines 1 (table .facts)
+      (count-made factLine (λ facts. word predicatesEnd (firstAction limit facts)) (aTable (unlocked table)) 63 lines 1 (table .facts)
       (predicatesEnd ++ behind) (omega (arith, d .facts-high)) number (after behind refl (first-made further acts))))

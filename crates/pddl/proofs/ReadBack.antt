@@ -1,14 +1,14 @@
--- Reading a text gives one thing only: what was written comes back, a text is accepted exactly if it is the text of some table (of some run), one
--- that is cut is refused at its length, and a good one with a tail at the length of the good one. Assumes nothing.
+-- Reading a text gives one thing only: what was written comes back, of a table all but its locks, a text is accepted exactly if it is the text of
+-- some table (of some run), one that is cut is refused at its length, and a good one with a tail at the length of the good one. Assumes nothing.
 use mathlib.Core.List.{List, _++_}
 use mathlib.Core.Logic.{_⊎_, inl, inr}
 use mathlib.Core.Path.{_≡_, refl, sym, ap, _∙_}
 use Prim.Native.Nat.{ℕ, _<_, _≤_}
 use native.Mathlib.Omega.{arith}
-use lib.ListN.{length}
+use lib.ListN.{length, replicate}
 use Rattle.table.specs.Refusals.{accepted}
-use Rattle.table.specs.Sizes.{maxFacts}
-use Rattle.table.specs.Tasks.{WellFormed, startOf, goalOf}
+use Rattle.table.specs.Sizes.{maxFacts, maxActions}
+use Rattle.table.specs.Tasks.{WellFormed, startOf, goalOf, unlocked}
 use Rattle.table.specs.declared.Table.{Table}
 use Rattle.table.specs.declared.Task.{Task}
 use Rattle.table.specs.declared.TaskReply.{TaskReply}
@@ -29,9 +29,18 @@ use Rattle.pddl.proofs.Walked.{table-said, start-said, goal-said, domai
 
 -- ---- the domain
 
+-- "the PDDL texts don't carry locks" (02, request 6): a table's text is that of the table without its locks, and so tables that differ in locks
+-- alone have the same text.
+pub unlocked-text : (t : Table) → domainText t ≡ domainText (unlocked t)
+unfolding domainText
+unlocked-text t = refl
+
+pub same-text : (t q : Table) → unlocked t ≡ unlocked q → domainText t ≡ domainText q
+same-text t q h = unlocked-text t ∙ ap domainText h ∙ sym (unlocked-text q)
+
 module _ {limit : ℕ} where
-  -- A text says one table.
-  same-table : (t q : Table) → Domain limit t → Domain limit q → domainText t ≡ domainText q → t ≡ q
+  -- A text says one table, but for the locks.
+  pub same-table : (t q : Table) → Domain limit t → Domain limit q → domainText t ≡ domainText q → unlocked t ≡ unlocked q
   same-table t q d e h =
       table-said
       (said-once (domainTree limit) (clear-domain limit) (domain-made limit t d)
@@ -45,9 +54,15 @@ module _ {limit : ℕ} where
   reads-domain-once (readings.ReadsDomain.outside n never l p) (readings.ReadsDomain.outside m _ k q) =
       p ∙ ap (refusedRead notTheLayout) (longest-once l k) ∙ sym q
 
-  -- What was written of a table comes back.
-  pub domain-back : (t : Table) {r : TaskReply} → Domain limit t → ReadsDomain (domainText t) limit r → r ≡ acceptedRead (withoutRuns t)
+  -- What was written of a table comes back, without its locks.
+  pub domain-back : (t : Table) {r : TaskReply} → Domain limit t → ReadsDomain (domainText t) limit r
+      → r ≡ acceptedRead (withoutRuns (unlocked t))
   domain-back t d h = reads-domain-once h (domain t d refl refl)
+
+  -- Whatever a text is, what reading gives has no lock.
+  pub no-locks : {s : List ℕ} {r : TaskReply} → ReadsDomain s limit r → r .task .table .locks ≡ replicate maxActions 0
+  no-locks (domain t d e p) = ap (λ (x : TaskReply). x .task .table .locks) p
+  no-locks (readings.ReadsDomain.outside n never l p) = ap (λ (x : TaskReply). x .task .table .locks) p
 
   -- Accepted exactly if it is the text of some table.
   pub accepted-domain : {s : List ℕ} {r : TaskReply} → ReadsDomain s limit r → r .number ≡ accepted → IsDomain limit s

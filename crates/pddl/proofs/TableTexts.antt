@@ -1,4 +1,4 @@
--- What the tree of the actions says: a table whose first sets are those read so far, action by action. Assumes nothing.
+-- What the tree of the actions says: a table whose first sets are those read so far, action by action, and which has no lock. Assumes nothing.
 use mathlib.Core.List.{List, [], _++_, append-assoc}
 use mathlib.Core.Path.{_≡_, refl, sym, ap, _∙_, subst}
 use Prim.Native.Nat.{ℕ, zero, suc, _+_, _<_, _≤_}
@@ -7,11 +7,12 @@ use lib.ListN.{length, getD, set, length-set}
 use lib.Seq.{ext-getD, getD-set-same, getD-set-other}
 use Rattle.facts.specs.Sets.{width}
 use Rattle.table.specs.Sizes.{maxActions}
+use Rattle.table.specs.Tasks.{unlocked}
 use Rattle.table.specs.declared.Table.{Table}
 use Rattle.table.proofs.FlagLaws.{by-order}
 use Rattle.layout.specs.Layouts.{Says, ends, after, stands, missing}
 use Rattle.pddl.specs.Texts.{actionHead, actionOf, domainEnd}
-use Rattle.pddl.specs.Trees.{Said, aTable, actionTree, tableTree, actionsFrom}
+use Rattle.pddl.specs.Trees.{Said, aTable, noSets, actionTree, tableTree, actionsFrom}
 use Rattle.pddl.proofs.Pieces.{from}
 use Rattle.pddl.proofs.SetTexts.{Inside}
 use Rattle.pddl.proofs.ActionTexts.{bodyText, action-parts, ActionSaid, action-said, action-made}
@@ -57,7 +58,7 @@ pub record Grown (facts a b : ℕ) (before sets : List ℕ) : Type 0 where
 
 pub record TableSaid (limit facts left a : ℕ) (N D E : List ℕ) (v : Said) (t : List ℕ) : Type 0 where
   pub table : Table
-  pub says : aTable table ≡ v
+  pub says : aTable (unlocked table) ≡ v
   pub facts-is : table .facts ≡ facts
   pub limit-is : table .limit ≡ limit
   pub further : ℕ
@@ -73,7 +74,7 @@ module _ (limit facts : ℕ) (few : facts ≤ width) (v : Said) where
       → Says v (tableTree limit facts a N D E) t → TableSaid limit facts left a N D E v t
   unfolding from
   end-said left a N D E t n d e (after u p (ends q r)) = record {
-    table = record { facts = facts; actions = a; limit = limit; needs = N; adds = D; deletes = E };
+    table = record { facts = facts; actions = a; limit = limit; needs = N; adds = D; deletes = E; locks = noSets };
     says = q;
     facts-is = refl;
     limit-is = refl;
@@ -177,13 +178,14 @@ module _ (table : Table) (few : table .facts ≤ width)
   }
 
   end-made : (a : ℕ) (N D E : List ℕ) → a ≡ table .actions → Begun a N (table .needs) → Begun a D (table .adds) → Begun a E (table .deletes)
-      → Says (aTable table) (tableTree (table .limit) (table .facts) a N D E) domainEnd
+      → Says (aTable (unlocked table)) (tableTree (table .limit) (table .facts) a N D E) domainEnd
   end-made a N D E z n d e = after [] refl (ends same refl)
     where
       all : (X : List ℕ) {Y : List ℕ} → Begun a X Y → SoFar (table .facts) (table .actions) Y → X ≡ Y
       all X {Y} x y = same-lists (x .so-far) (subst (λ k. SoFar (table .facts) k Y) (sym z) y) (x .same)
 
-      same : aTable (record { facts = table .facts; actions = a; limit = table .limit; needs = N; adds = D; deletes = E }) ≡ aTable table
+      same : aTable (record { facts = table .facts; actions = a; limit = table .limit; needs = N; adds = D; deletes = E; locks = noSets })
+          ≡ aTable (unlocked table)
       same = rw (all N n needs, all D d adds, all E e deletes, z)
 
   -- The text of an action behind its head, and the further actions and the end.
@@ -202,23 +204,23 @@ module _ (table : Table) (few : table .facts ≤ width)
       append-assoc (actionHead a) (bodyOf a) (onward further (suc a))
 
   pub next-made : (left further a : ℕ) (N D E : List ℕ)
-      → Says (aTable table)
+      → Says (aTable (unlocked table))
       (actionsFrom (table .limit) (table .facts) left (suc a) (set N a (getD (table .needs) a 0)) (set D a (getD (table .adds) a 0))
       (set E a (getD (table .deletes) a 0)))
       (onward further (suc a))
-      → Says (aTable table)
+      → Says (aTable (unlocked table))
       (actionTree (table .facts)
       (λ i j k. actionsFrom (table .limit) (table .facts) left (suc a) (set N a i) (set D a j) (set E a k)))
       (bodyOf a ++ onward further (suc a))
   next-made left further a N D E s =
       action-made (table .facts)
-      (λ i j k. actionsFrom (table .limit) (table .facts) left (suc a) (set N a i) (set D a j) (set E a k)) (aTable table) few
+      (λ i j k. actionsFrom (table .limit) (table .facts) left (suc a) (set N a i) (set D a j) (set E a k)) (aTable (unlocked table)) few
       (getD (table .needs) a 0) (getD (table .adds) a 0) (getD (table .deletes) a 0) (onward further (suc a)) (needs .inside a)
       (adds .inside a) (deletes .inside a) s
 
   pub table-made : (left further a : ℕ) (N D E : List ℕ) → further ≤ left → a + further ≡ table .actions → a + left ≤ maxActions
       → Begun a N (table .needs) → Begun a D (table .adds) → Begun a E (table .deletes)
-      → Says (aTable table) (actionsFrom (table .limit) (table .facts) left a N D E) (onward further a)
+      → Says (aTable (unlocked table)) (actionsFrom (table .limit) (table .facts) left a N D E) (onward further a)
   unfolding actionsFrom from
   table-made zero zero a N D E h z room n d e = end-made a N D E (omega arith) n d e
   table-made zero (suc further) a N D E h z room n d e = absurd (omega arith)

@@ -6,11 +6,11 @@ use Prim.Native.Nat.{ℕ, zero, suc, _+_, _-_, _*_, _^_, _≤_}
 use native.Mathlib.Decide.{le-ind}
 use native.Mathlib.Omega.{arith}
 use lib.ListN.{length, replicate, getD, length-append}
-use Rattle.facts.specs.Sets.{has, within}
+use Rattle.facts.specs.Sets.{has, removed, within}
 use Rattle.table.specs.Counting.{everyBelow, sumBelow}
 use Rattle.table.specs.Lists.{gather, piece}
 use Rattle.table.specs.Sizes.{maxFacts, maxActions, maxRuns, allSteps}
-use Rattle.table.specs.Tasks.{startOf, goalOf, sizesFormed, maskFormed, actionFormed, runFits, runFormed, stepFits, stepFormed, formed, WellFormed}
+use Rattle.table.specs.Tasks.{startOf, goalOf, sizesFormed, maskFormed, actionFormed, locksFormed, runFits, runFormed, stepFits, stepFormed, formed, WellFormed}
 use Rattle.table.specs.declared.Task.{Task}
 use Rattle.text.specs.Text.{digits}
 use Rattle.text.specs.Ascii.{bytesOf}
@@ -117,7 +117,7 @@ everySet = replicate maxActions everyFact
 
 abbrev pub fullestTask : Task
 fullestTask = record {
-  table = record { facts = maxFacts; actions = maxActions; limit = 0; needs = everySet; adds = everySet; deletes = everySet };
+  table = record { facts = maxFacts; actions = maxActions; limit = 0; needs = everySet; adds = everySet; deletes = everySet; locks = everySet };
   runs = record {
     many = 1;
     starts = everyFact ∷ replicate (maxRuns - 1) 0;
@@ -128,7 +128,7 @@ fullestTask = record {
 }
 
 pub fullest-formed : formed fullestTask ≡ true
-unfolding formed sizesFormed runFormed runFits actionFormed maskFormed stepFormed stepFits everyBelow within
+unfolding formed sizesFormed runFormed runFits actionFormed maskFormed locksFormed removed stepFormed stepFits everyBelow within
 fullest-formed = refl
 
 full-facts : length (linesOf factLine maxFacts everyFact) ≡ allFactLines

@@ -1,17 +1,18 @@
 -- What a walk along the trees gives is what reading a text gives, and reading gives one thing only. Assumes nothing.
 use mathlib.Core.Bool.{true}
 use mathlib.Core.List.{List, []}
-use mathlib.Core.Path.{_≡_, refl, ap, _∙_, subst}
+use mathlib.Core.Path.{_≡_, refl, sym, ap}
 use Prim.Native.Nat.{ℕ, _<_, _≤_}
 use Rattle.table.specs.Sizes.{maxFacts}
+use Rattle.table.specs.Tasks.{unlocked}
 use Rattle.table.specs.declared.Table.{Table}
 use Rattle.taskformat.specs.Reading.{acceptedRead, refusedRead}
 use Rattle.layout.specs.Layouts.{TextOf}
 use Rattle.layout.specs.Walking.{walk, reads, stops}
 use Rattle.layout.proofs.Exact.{walk-reads, walk-stops, walk-never}
 use Rattle.layout.proofs.Places.{same-longest}
-use Rattle.pddl.specs.Texts.{domainText, problemText}
-use Rattle.pddl.specs.Readings.{notTheLayout, Domain, IsDomain, withoutRuns, ReadsDomain, domain, Problem, IsProblem, refusedProblem, acceptedProblem, ReadsProblem, problem}
+use Rattle.pddl.specs.Texts.{problemText}
+use Rattle.pddl.specs.Readings.{notTheLayout, IsDomain, withoutRuns, ReadsDomain, domain, Problem, IsProblem, refusedProblem, acceptedProblem, ReadsProblem, problem}
 use Rattle.pddl.specs.Readings as readings
 use Rattle.pddl.specs.Trees.{Said, aTable, aRun, domainTree, problemTree}
 use Rattle.pddl.proofs.DomainTexts.{domain-said, domain-made}
@@ -21,7 +22,7 @@ use Rattle.pddl.proofs.ClearTrees.{clear-domain, clear-problem}
 -- What is said is one thing.
 tableIn : Said → Table
 tableIn (aTable t) = t
-tableIn (aRun s g) = record { facts = 0; actions = 0; limit = 0; needs = []; adds = []; deletes = [] }
+tableIn (aRun s g) = record { facts = 0; actions = 0; limit = 0; needs = []; adds = []; deletes = []; locks = [] }
 
 startIn : Said → ℕ
 startIn (aTable t) = 0
@@ -47,7 +48,7 @@ goal-said e = ap goalIn e
 
 module _ (limit : ℕ) where
   pub domain-text : (t : List ℕ) → IsDomain limit t → TextOf (domainTree limit) t
-  domain-text t d = rw (d .text) (record { says = aTable (d .table); so = domain-made limit (d .table) (d .fits) })
+  domain-text t d = rw (d .text) (record { says = aTable (unlocked (d .table)); so = domain-made limit (d .table) (d .fits) })
 
   pub text-domain : (t : List ℕ) → TextOf (domainTree limit) t → IsDomain limit t
   text-domain t x = let d = domain-said limit (x .says) t (x .so) in record { table = d .table; fits = d .fits; text = d .text }
@@ -56,8 +57,7 @@ module _ (limit : ℕ) where
     pub domain-walked : (t : Table) → walk (domainTree limit) s true 0 0 ≡ reads (aTable t) → ReadsDomain s limit (acceptedRead (withoutRuns t))
     domain-walked t e =
         let d = domain-said limit (aTable t) s (walk-reads (domainTree limit) (clear-domain limit) s (aTable t) e) in
-        let same : d .table ≡ t = table-said (d .says) in
-        domain t (subst (Domain limit) same (d .fits)) (d .text ∙ ap domainText same) refl
+        domain (d .table) (d .fits) (d .text) (ap (λ (x : Table). acceptedRead (withoutRuns x)) (sym (table-said (d .says))))
 
     pub domain-stopped : (n : ℕ) → walk (domainTree limit) s true 0 0 ≡ stops n → ReadsDomain s limit (refusedRead notTheLayout n)
     domain-stopped n e =

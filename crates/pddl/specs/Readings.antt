@@ -1,6 +1,6 @@
 -- What reading a text gives, for every text: 02, request 4, "A reader for exactly that layout gives the actions, starts, goals and sizes back.
 -- Anything else is refused, at the length of the longest beginning that it shares with some text of the layout (for a problem, some problem
--- over the domain's sizes)."
+-- over the domain's sizes)." 02, request 6: "the PDDL texts don't carry locks", so what comes back has none.
 use mathlib.Core.Bool.{false}
 use mathlib.Core.List.{List}
 use mathlib.Core.Logic.{_⊎_}
@@ -10,7 +10,7 @@ use lib.ListN.{length}
 use Rattle.facts.specs.Sets.{has}
 use Rattle.table.specs.Refusals.{accepted, sizeOutside}
 use Rattle.table.specs.Sizes.{maxFacts, maxActions}
-use Rattle.table.specs.Tasks.{maskOf}
+use Rattle.table.specs.Tasks.{maskOf, unlocked}
 use Rattle.table.specs.declared.Runs.{Runs}
 use Rattle.table.specs.declared.Table.{Table}
 use Rattle.table.specs.declared.Task.{Task}
@@ -26,7 +26,7 @@ notTheLayout = 17
 
 -- ---- the domain
 
--- The tables that a domain text says, with the limit that is passed beside it: those of well-formed tasks.
+-- The tables that a domain text says, with the limit that is passed beside it: those of well-formed tasks, whatever their locks.
 pub record Domain (limit : ℕ) (t : Table) : Type 0 where
   pub facts-low : 0 < t .facts
   pub facts-high : t .facts ≤ maxFacts
@@ -52,9 +52,9 @@ noRuns = noTask .runs
 abbrev pub withoutRuns : Table → Task
 withoutRuns t = record { table = t; runs = noRuns }
 
--- r is what reading s as a domain gives.
+-- r is what reading s as a domain gives: of the text of a table, the table without its locks.
 pub data ReadsDomain (s : List ℕ) (limit : ℕ) (r : TaskReply) : Type 0 where
-  domain : (t : Table) → Domain limit t → s ≡ domainText t → r ≡ acceptedRead (withoutRuns t) → ReadsDomain s limit r
+  domain : (t : Table) → Domain limit t → s ≡ domainText t → r ≡ acceptedRead (withoutRuns (unlocked t)) → ReadsDomain s limit r
   outside : (n : ℕ) → (IsDomain limit s → ⊥) → Longest (IsDomain limit) s n → r ≡ refusedRead notTheLayout n → ReadsDomain s limit r
 
 -- ---- a problem over so many facts

@@ -1,4 +1,5 @@
--- The domain text of a table and the problem text of a run, byte by byte: 02, request 4; docs/PDDL.md, in its order and its words.
+-- The domain text of a table and the problem text of a run, byte by byte: 02, request 4; docs/PDDL.md, in its order and its words. Locks are
+-- not in them (02, request 6).
 use mathlib.Core.List.{List, _++_}
 use Prim.Native.Nat.{ℕ}
 use lib.ListN.{getD}

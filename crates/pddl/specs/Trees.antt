@@ -34,10 +34,15 @@ actionTree facts rest =
     setTree factLine facts
     (λ needs. word effectOpening (setTree factLine facts (λ adds. setTree deleteLine facts (λ deletes. word actionEnd (rest needs adds deletes)))))
 
+-- No action has a set yet.
+abbrev pub noSets : List ℕ
+noSets = replicate maxActions 0
+
+-- A text says no lock (02, request 6).
 abbrev pub tableTree : ℕ → ℕ → ℕ → List ℕ → List ℕ → List ℕ → Layout Said
 tableTree limit facts actions needs adds deletes =
     word domainEnd
-    (done (aTable (record { facts = facts; actions = actions; limit = limit; needs = needs; adds = adds; deletes = deletes })))
+    (done (aTable (record { facts = facts; actions = actions; limit = limit; needs = needs; adds = adds; deletes = deletes; locks = noSets })))
 
 -- At most `left` further actions from a on; the sets of those before it have been read.
 unfoldable pub actionsFrom : ℕ → ℕ → ℕ → ℕ → List ℕ → List ℕ → List ℕ → Layout Said
@@ -46,9 +51,6 @@ actionsFrom limit facts (suc left) a needs adds deletes =
     pick (actionHead a)
     (actionTree facts (λ n d e. actionsFrom limit facts left (suc a) (set needs a n) (set adds a d) (set deletes a e)))
     (tableTree limit facts a needs adds deletes)
-
-abbrev pub noSets : List ℕ
-noSets = replicate maxActions 0
 
 -- One fact and one action have to stand.
 unfoldable pub firstAction : ℕ → ℕ → Layout Said

@@ -37,19 +37,19 @@ action-read facts s c needs adds deletes needed opened added deleted ended rest 
 abbrev pub actionsLeft : ℕ → ℕ → ℕ → List ℕ → List ℕ → List ℕ → Layout Said
 actionsLeft limit facts a needs adds deletes = actionsFrom limit facts (maxActions - a) a needs adds deletes
 
--- The table so far has these sizes.
+-- The table so far has these sizes, and no lock.
 abbrev pub Sized : ℕ → ℕ → ℕ → Table → Type 0
-Sized limit facts a t = (t .limit ≡ limit) × (t .facts ≡ facts) × (t .actions ≡ a)
+Sized limit facts a t = (t .limit ≡ limit) × (t .facts ≡ facts) × (t .actions ≡ a) × (t .locks ≡ noSets)
 
 -- It is the one that the text then says.
 pub same-table : (s : List ℕ) (c : Cursor) {limit facts a : ℕ} (t : Table) → Sized limit facts a t
     → walkFrom (tableTree limit facts a (t .needs) (t .adds) (t .deletes)) s c ≡ walkFrom (word domainEnd (done (aTable t))) s c
-same-table s c t e = sized (e .0) (e .1) (e .2)
+same-table s c t e = sized (e .0) (e .1) (e .2) (e .3)
   where
-    sized : {l f a : ℕ} → t .limit ≡ l → t .facts ≡ f → t .actions ≡ a
-        → walkFrom (tableTree l f a (t .needs) (t .adds) (t .deletes)) s c ≡
-        walkFrom (tableTree (t .limit) (t .facts) (t .actions) (t .needs) (t .adds) (t .deletes)) s c
-    sized p q r = rw (← p, ← q, ← r)
+    sized : {l f a : ℕ} {x : List ℕ} → t .limit ≡ l → t .facts ≡ f → t .actions ≡ a → t .locks ≡ x
+        → walkFrom (word domainEnd (done (aTable (record { facts = f; actions = a; limit = l; needs = t .needs; adds = t .adds; deletes = t .deletes; locks = x })))) s c ≡
+        walkFrom (word domainEnd (done (aTable t))) s c
+    sized p q r x = rw (← p, ← q, ← r, ← x)
 
 module _ (limit facts : ℕ) (s : List ℕ) where
   pub first-read : (c : Cursor) {t : Tried} {head : Cursor} (r : ActionRead) → t ≡ tried s c (actionHead 0) → head ≡ hadToStand t

@@ -39,7 +39,7 @@ fn read_action(s: &[u8], c: Cursor, facts: usize) -> ActionRead
     }
 }
 
-// The first action, which has to stand, and those after it.
+// The first action, which has to stand, and those after it. No text carries a lock (02, request 6).
 pub(crate) fn read_actions(s: &[u8], c: Cursor, facts: usize, limit: usize) -> TableRead
     ensures { λ r. ⌜ ReadsActions limit facts (now (s .entry)) c r ⌝ }
 {
@@ -50,6 +50,7 @@ pub(crate) fn read_actions(s: &[u8], c: Cursor, facts: usize, limit: usize) -> T
         needs: [0; ACTIONS],
         adds: [0; ACTIONS],
         deletes: [0; ACTIONS],
+        locks: [0; ACTIONS],
     };
     let head = had_to_stand(try_head(s, c, 0));
     let first = read_action(s, head, facts);

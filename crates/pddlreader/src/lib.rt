@@ -56,6 +56,7 @@ fn refused(place: usize) -> TaskReply
         needs: [0; ACTIONS],
         adds: [0; ACTIONS],
         deletes: [0; ACTIONS],
+        locks: [0; ACTIONS],
     };
     let runs = no_runs();
     TaskReply {

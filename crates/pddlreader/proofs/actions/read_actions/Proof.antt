@@ -55,7 +55,7 @@ element-write-table-3 : tie.Need-element-write-table-3 Inv-loop μ-loop
 element-write-table-3 c = search needs
 
 loop-holds : tie.Need-loop-holds Inv-loop μ-loop
-loop-holds c = (refl, (refl, refl, refl))
+loop-holds c = (refl, (refl, refl, refl, refl))
 
 try-head-requires-2 : tie.Need-try-head-requires-2 Inv-loop μ-loop
 try-head-requires-2 c κs = search needs
@@ -113,7 +113,7 @@ loop-again c =
           next-read (a .limit) (a .facts) (now (a .s)) (i .loop .action) (table .needs) (table .adds) (table .deletes) (i .loop .cursor)
           (t .before .loop-test .taken) (t .try-head2 .ensures) (not-false (t .try-head2 .result .taken) (e .if1 .left))
           (r .read-action2 .result) (r .read-action2 .ensures),
-      (i .loop .inv .1 .0, i .loop .inv .1 .1, refl),
+      (i .loop .inv .1 .0, i .loop .inv .1 .1, refl, i .loop .inv .1 .3),
     )
 
 returns-2 : tie.Need-returns-2 Inv-loop μ-loop
