@@ -1,13 +1,16 @@
 """The bad byte of a refused file (02's request 2), for whoever has to find it: the bytes around it, the record that it stands
 in, and what that record does not fit. Which byte it is, and why, is the proved program's answer; here bytes are looked at."""
 
+import textwrap
+
 import refusals
 from colours import PLAIN, RED
-from taskfile import ACTION, ADD, BODY, CELL, DELETE, END, FACT, GOAL, NEED, RUN, SIZES, START, STEP, records_in
+from taskfile import ACTION, ADD, BODY, CELL, DELETE, END, FACT, GOAL, LOCK, NEED, RUN, SIZES, START, STEP, records_in
 from words import Names, counted
 
 ROW = 16  # bytes
 NO_BYTE = ".."  # where the file ends, and a byte has to come
+LONGEST = 100  # letters of a line that could have any number of names
 
 KINDS = {
     SIZES: "the sizes",
@@ -16,6 +19,7 @@ KINDS = {
     NEED: "a need",
     ADD: "an add",
     DELETE: "a delete",
+    LOCK: "a lock",
     STEP: "a step",
     END: "the end record",
     RUN: "a further run",
@@ -79,9 +83,11 @@ def described(record, names):
 
 
 def misfit(record, before, place, names, number):
-    """What a record does not fit: how many facts or actions there are, or what it comes after."""
+    """What a record does not fit: how many facts or actions there are, what its action needs, or what it comes after."""
     if number == refusals.OUTSIDE:
         return [numbered(BODY[record.kind][place - record.place - 1], before[0])]
+    if number == refusals.LOCK_WITHOUT_NEED:
+        return needs_of(record.body[0], before, names)
     if number != refusals.DISORDERED and record.content:
         return []
     told = [f"after {described(each, names)}" for each in before[-1:]]
@@ -95,3 +101,10 @@ def numbered(what, sizes):
     """How many facts or actions there are by the size record, and how they are numbered."""
     many = dict(zip((FACT, ACTION), sizes.body))[what]
     return f"there is 1 {what}, number 0" if many == 1 else f"there are {many} {what}s, numbered 0 to {many - 1}"
+
+
+def needs_of(action, records, names):
+    """What an action needs by the records."""
+    facts = [names.fact(each.body[1]) for each in records if each.kind == NEED and each.body[0] == action]
+    told = f"{names.action(action)} needs {', '.join(facts) or 'no fact'}"
+    return textwrap.wrap(told, LONGEST, break_on_hyphens=False, break_long_words=False)

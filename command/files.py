@@ -10,7 +10,7 @@ import source
 from stop import REFUSED, UNABLE, Stop
 
 TEXT_CONTROLS = b"\t\n\r\f"
-MOST_READ = 1_000_000  # bytes: no source is near that, and of a task file only the first 24,000 count
+MOST_READ = 1_000_000  # bytes: no source is near that, and of a task file only the first 28,000 count
 
 
 def shown(path):

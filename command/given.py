@@ -24,6 +24,7 @@ class Given:
         self.source = None if is_task_file else files.source_of(self.path, content)
         self.data = content if is_task_file else file_of(self.source)  # the task file
         self.fault = fault(self.data)
+        self.locks = self.task().locks() if self.fault is None else []  # of the file itself
         self.notes = []  # what else is to be said of a refused file
         self.lender = self.lender_of(asked["names"]) if "names" in asked else self.source
         self.called, self.texts = self.path, {}  # what the answer is headed by; the PDDL texts, path by path

@@ -25,6 +25,7 @@ def errors(source):
         found += declaration_errors(word, source.names(word)) + none_errors(source, word)
     for block in source.blocks:
         found += [error for word in CELLS for error in use_errors(known, word, cell_names(block, word))]
+        found += lock_errors(source, block, known["facts"])
     found += opening_errors(source)
     for run in source.runs:
         found += [error for word in ("start", "goal") for error in use_errors(known, word, run.names(word))]
@@ -35,6 +36,19 @@ def errors(source):
 
 def cell_names(block, word):
     return [name for statement in block.cells if statement.kind == word for name in statement.names()]
+
+
+def lock_errors(source, block, facts):
+    """Of `locks`: each fact is one that the actions above need, which may be said below it. Where there is an error in what they
+    need, that one is enough."""
+    needs, bad = {name.text for name in cell_names(block, "needs")}, {error.line for error in source.errors}
+    lines = {statement.word.line for statement in block.cells if statement.kind == "needs"}
+    if lines & bad or not needs <= set(facts):
+        return []
+    idle = [name for name in cell_names(block, "locks") if name.text in facts and name.text not in needs]
+    actions = block.statement.names()[:1]  # all of them need the same
+    rule = "so that there is nothing to lock"
+    return [name.error(f"'{action.text}' does not need '{name.text}', {rule}") for action in actions for name in idle]
 
 
 def number_errors(source, word):

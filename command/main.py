@@ -16,6 +16,7 @@ import draw_svg
 import draw_text
 import files
 import judging
+import locks
 import options
 import pddl
 import picture
@@ -54,13 +55,13 @@ def mend(arguments, out):
         raise refused(given, words.refusal(found), place, number)
     names = given.names(len(found.opens))
     if "numbers" not in asked:
-        out.write("\n".join(words.answer(given.called, found, names, given.task().runs)) + "\n")
+        out.write("\n".join(answer(asked, given, found, names)) + "\n")
     if "show" in asked or "svg" in asked:
         draw(asked, given, found, names, out)
     if "table" in asked:
         write_table(asked["table"], given, found)
     if "pddl" in asked:
-        write_pddl(asked, given, found, names)
+        write_pddl(asked, given, found, names, out)
     return LIST if found.refusal is None else NO_LIST
 
 
@@ -81,6 +82,15 @@ def refused(given, what, place, number=None):
     """The end of mend for a refused file: why, and which byte it is."""
     shown = badbyte.lines(given.data, place, given.names(), colours.allowed(sys.stderr), number)
     return Stop(REFUSED, given.refusal(what), "", *shown, *(line for note in given.notes for line in ("", note)))
+
+
+def answer(asked, given, found, names):
+    """The lines of the answer. Of PDDL texts it also says whether the file that they go with has locks."""
+    why = locks.why(given.data, found, names)
+    lines = words.answer(given.called, found, names, given.task().runs, why)
+    if given.texts and given.locks:
+        lines += ["", locks.not_read(files.shown(asked["from-pddl"]), given.path, len(given.locks))]
+    return lines
 
 
 def draw(asked, given, found, names, out):
@@ -104,15 +114,18 @@ def write_table(path, given, found):
     files.write(path, text.encode())
 
 
-def write_pddl(asked, given, found, names):
-    """The repaired table and its runs as PDDL, with a legend; the texts are the library's."""
+def write_pddl(asked, given, found, names, out):
+    """The repaired table and its runs as PDDL, with a legend; the texts are the library's. What they don't carry is told."""
     folder, (facts, actions, *_), many = asked["pddl"], found.sizes, len(found.opens)
     if found.refusal:
         raise Stop(NO_LIST, pddl.nothing_written(folder, "there is no correction to make"))
     library = Library()
     texts = library.texts(library.mended(library.task(given.data)))
     pddl.judge(folder, given.path, many, "force" in asked)  # once more: proving may have taken minutes
-    pddl.write(folder, texts, pddl.legend(names, facts, actions, many))
+    locked = given.task().locks()
+    pddl.write(folder, texts, pddl.legend(names, facts, actions, many, locked))
+    if locked and "numbers" not in asked:
+        out.write(f"\n{locks.not_written(files.shown(folder), pddl.LEGEND, len(locked))}\n")
 
 
 def told(lines):

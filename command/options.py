@@ -12,7 +12,7 @@ OPTIONS = {  # word: (what it takes, what it does)
     "svg": ("OUT", "write the same drawing as a picture"),
     "table": ("OUT", "write the source with the correction made"),
     "task": ("OUT", "write the source's task file"),
-    "pddl": (FOLDER, "write the repaired table and its runs as PDDL, with a legend"),
+    "pddl": (FOLDER, "write the repaired table and its runs as PDDL, without locks, and a legend"),
     "force": (None, "let --pddl write over files that stand there"),
     "from-pddl": (FOLDER, "take table, starts and goals from such a folder, not from FILE"),
     "names": ("SOURCE", "take the names for a task file from a source"),

@@ -74,8 +74,8 @@ def write(folder, texts, legend):
     files.write_in(folder, {**contents, LEGEND: legend.encode()})
 
 
-def legend(names, facts, actions, runs):
-    """Which fact, action and run each name of the texts stands for."""
+def legend(names, facts, actions, runs, locks=()):
+    """Which fact, action and run each name of the texts stands for; and the locked needs, which no text carries."""
     groups = [
         [(f"f{number}", names.fact(number)) for number in range(facts)],
         [(f"a{number}", names.action(number)) for number in range(actions)],
@@ -85,6 +85,9 @@ def legend(names, facts, actions, runs):
     for group in groups:
         width = max(len(name) for name, _ in group)
         told += ["", *(f"{name:{width}}  {called}" for name, called in group)]
+    if locks:
+        told += ["", "# The texts carry no locks. Locked are these needs:", ""]
+        told += [f"a{action} f{fact}  {names.action(action)} needs {names.fact(fact)}" for action, fact in locks]
     return "\n".join(told) + "\n"
 
 

@@ -6,7 +6,7 @@ from dataclasses import dataclass, field
 
 from errors import Error, meant, nearest
 
-CELLS = ("needs", "adds", "deletes")
+CELLS = ("needs", "adds", "deletes", "locks")
 OF_A_RUN = ("start", "goal", "steps")
 DAMAGE = ("byte", "cut", "fill")  # in the order in which it is done
 NUMBERS = ("limit", *DAMAGE)

@@ -1,22 +1,24 @@
-"""The task file (document 01, "The task file", and 02's request 1): made from a judged source, and taken apart into its
+"""The task file (document 01, "The task file", and 02's requests 1 and 6): made from a judged source, and taken apart into its
 records."""
 
 from dataclasses import dataclass, field
 
-SIZES, START, GOAL, NEED, ADD, DELETE, STEP, END, RUN = range(1, 10)
-CELL = {"needs": NEED, "adds": ADD, "deletes": DELETE}
+SIZES, START, GOAL, NEED, ADD, DELETE, STEP, END, RUN, LOCK = range(1, 11)
+CELL = {"needs": NEED, "adds": ADD, "deletes": DELETE, "locks": LOCK}
 FACT, ACTION = "fact", "action"
-BODY = {  # what the numbers after the kind are
+BODY = {  # what the numbers after the kind are; the kinds in the order of a file
     SIZES: ("facts", "actions", "limit"),
     START: (FACT,),
     GOAL: (FACT,),
     NEED: (ACTION, FACT),
     ADD: (ACTION, FACT),
     DELETE: (ACTION, FACT),
+    LOCK: (ACTION, FACT),
     STEP: (ACTION,),
     END: (),
     RUN: (),
 }
+RANK = {kind: rank for rank, kind in enumerate(BODY)}
 MOST_FACTS, MOST_ACTIONS, MOST_LIMIT, MOST_STEPS, MOST_RUNS = 64, 32, 6, 64, 8
 
 
@@ -38,8 +40,8 @@ def whole_file(source):
 
 
 def records(source):
-    """The records in the order of the file: kinds never go down, and the bodies of kinds 2 to 6 ascend. A further run begins
-    that anew, and has no cells."""
+    """The records in the order of the file: kinds never go back, and the bodies of starts, goals and cells ascend. A further run
+    begins that anew, and has no cells."""
     fact = {name: number for number, name in enumerate(source.texts("facts"))}
     action = {name: number for number, name in enumerate(source.texts("action"))}
     cells = []
@@ -52,14 +54,19 @@ def records(source):
         starts, goals = ([fact[name] for name in run.texts(word)] for word in ("start", "goal"))
         sets = [(START, f) for f in starts] + [(GOAL, f) for f in goals]
         steps = [(STEP, action[name]) for name in run.texts("steps")]
-        made += [(RUN,), *sorted(sets), *steps] if number else [*sorted(sets + cells), *steps]
+        made += [(RUN,), *in_order(sets), *steps] if number else [*in_order(sets + cells), *steps]
     return [*made, (END,)]
+
+
+def in_order(records):
+    return sorted(records, key=lambda record: (RANK[record[0]], record))
 
 
 @dataclass
 class Run:
     """What a task file says of a run, in numbers."""
 
+    starts: set = field(default_factory=set)
     goals: set = field(default_factory=set)
     steps: list = field(default_factory=list)
 
@@ -71,8 +78,12 @@ class Task:
     facts: int = 0
     actions: int = 0
     limit: int = 0
-    cells: set = field(default_factory=set)  # the records of kinds 4 to 6
+    cells: set = field(default_factory=set)  # the records of needs, adds, deletes and locks
     runs: list = field(default_factory=lambda: [Run()])
+
+    def locks(self):
+        """The locked needs, each (action, fact), in the order of the file."""
+        return sorted((action, fact) for kind, action, fact in self.cells if kind == LOCK)
 
     def take(self, record):
         """Takes in what a record says, whole and where it may stand."""
@@ -80,6 +91,8 @@ class Task:
             self.facts, self.actions, self.limit = record.body
         elif record.kind == RUN:
             self.runs.append(Run())
+        elif record.kind == START:
+            self.runs[-1].starts |= set(record.body)
         elif record.kind == GOAL:
             self.runs[-1].goals |= set(record.body)
         elif record.kind == STEP:
@@ -138,6 +151,11 @@ def task_of(data):
     return task
 
 
+def without_locks(data):
+    """A file that the proved program has accepted, with nothing locked."""
+    return b"".join(record.content for record in records_in(data) if record.kind != LOCK)
+
+
 def fault(data):
     """The byte that is wrong in a file that is not as 01 and 02 have it, or None. The verdict is the proved program's; this is
     looked at only where the program would have to be proved first."""
@@ -163,9 +181,11 @@ def wrong_byte(record, before, task):
     for at, (what, number) in enumerate(zip(BODY[kind], record.body), 1):
         if number >= (task.facts if what == FACT else task.actions):
             return at  # 5
-    if kind < before.kind != RUN or is_cell and len(task.runs) > 1:
+    if RANK[kind] < RANK[before.kind] and before.kind != RUN or is_cell and len(task.runs) > 1:
         return 0  # 6
     if kind == before.kind and kind not in (STEP, RUN) and record.body <= before.body:
         return 1  # 6
+    if kind == LOCK and (NEED, *record.body) not in task.cells:
+        return 0  # 18
     is_ninth, is_65th = len(task.runs) == MOST_RUNS, len(task.runs[-1].steps) == MOST_STEPS
     return 0 if kind == RUN and is_ninth or kind == STEP and is_65th else None  # 16, 7

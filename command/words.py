@@ -40,14 +40,15 @@ def counted(number, noun):
     return f"{number} {noun}{'' if number == 1 else 's'}"
 
 
-def answer(file, found, names, runs):
-    """The lines of the answer: what the table and the runs are, what is missing in each, and what to change."""
+def answer(file, found, names, runs, why=()):
+    """The lines of the answer: what the table and the runs are, what is missing in each, and what to change; where there is no
+    list, why, if that is known."""
     facts, actions, limit, length = found.sizes
     steps = counted(length, "step") if len(runs) == 1 else f"{len(runs)} runs of {counted(length, 'step')} in all"
     sizes = ", ".join([counted(facts, "fact"), counted(actions, "action"), steps, f"at most {counted(limit, 'repair')}"])
     each = zip(names.headings(len(runs)), found.opens, runs)
     missing = [line for heading, told, run in each for line in needs(heading, told, names, run.steps)]
-    return [f"{file}: {sizes}", "", *missing, *rejected(found, runs), "", *change(found, names)]
+    return [f"{file}: {sizes}", "", *missing, *rejected(found, runs), "", *change(found, names), *why]
 
 
 def needs(heading, told, names, steps):
