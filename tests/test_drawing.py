@@ -181,13 +181,13 @@ class Drawing(Case):
     def test_presence_is_asked_of_the_run_check(self):
         states = [[{0, 1, 2}, {1}], [{0, 2}], [set(), {0, 1, 2}, {2}]]  # of three runs, after each number of steps
         in_steps = [[0, 2], [0], [0, 0, 64]]  # how many needs are open up to there
-        task, pipes = [0] * 636, []
+        task, pipes = [0] * 668, []
         task[library.AT_MANY], task[library.AT_COUNTS : library.AT_COUNTS + 3] = 3, [1, 0, 2]
 
         def checked(requests):
             pipes.append(len(requests))
             for call, (*words, run), _ in requests:
-                self.assertEqual((call, len(words)), (library.CHECK, 636))
+                self.assertEqual((call, len(words)), (library.CHECK, 668))
                 goals, done = words[library.AT_GOALS + run], words[library.AT_COUNTS + run]
                 absent = {fact for fact in range(3) if goals >> fact & 1} - states[run][done]
                 yield [0, 0, in_steps[run][done] + len(absent), 0, 0], b""
@@ -201,7 +201,7 @@ class Drawing(Case):
                 calls.presence(task, range(3))
 
     def test_a_run_is_cut_where_it_is_asked(self):
-        task = list(range(1, 637))
+        task = list(range(1, 669))
         words = library.cut(task, 2, 3, [0, 63])
         steps = library.AT_STEPS + 2 * 64
         changed = {library.AT_GOALS + 2: 1 | 1 << 63, library.AT_COUNTS + 2: 3}

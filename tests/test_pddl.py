@@ -331,7 +331,7 @@ class Written(Folders):
         self.assertEqual((self.content(out), both.exists()), (WRITTEN, False))
 
     def test_no_list_writes_nothing(self):
-        for name in ("over", "hopeless"):
+        for name in ("over", "hopeless", "lockout"):
             out = self.folder / name
             error = f"{out}: nothing is written: there is no correction to make"
             told = self.expect(within(SAMPLES / f"{name}.txt", "--pddl", out), NO_LIST, error)
@@ -361,7 +361,8 @@ class Written(Folders):
 class EachSample(Case):
     """What is written for each sample that has a list, and read back."""
 
-    NAMES = {"first": 1, "story": 1, "runs": 2, "hidden": 1, "pairs": 1, "fullest": 8, "wordiest": 8}  # how many runs
+    NAMES = {"first": 1, "story": 1, "runs": 2, "hidden": 1, "locked": 1, "pairs": 1, "fullest": 8, "wordiest": 8}  # how many runs
+    LOCKED = ("locked", "fullest")
 
     @classmethod
     def setUpClass(cls):
@@ -390,20 +391,23 @@ class EachSample(Case):
                 self.assertEqual([pddl_grammar.problem(text, domain) for text in texts[1:]], problems(name))
 
     def test_no_need_is_missing_when_they_are_read_back(self):
-        """And the task file is that of the library's own apply."""
+        """And the task file is that of the library's own apply, with nothing locked."""
         calls = library.Library()
         for name, many in self.NAMES.items():
             with self.subTest(name=name):
                 path, task = SAMPLES / f"{name}.txt", self.folder / "out.task"
                 told = self.expect(within(path, "--from-pddl", self.all / name, "--task", task), LIST)
-                head, missing, change = told.split("\n\n")
+                head, missing, change, *note = told.split("\n\n")
                 self.assertTrue(head.startswith(f"{self.all / name} with {path}: "), head)
                 valid = re.findall(r"(?m)^Nothing is missing(?: in run \S+)?: the run is valid as the table stands\.$", missing)
                 self.assertEqual(valid, missing.splitlines())
                 self.assertEqual(len(valid), many)
-                self.assertEqual(change, f"{NO_CHANGE}\n")
+                self.assertEqual(change.strip(), NO_CHANGE)
+                self.assertEqual(len(note), name in self.LOCKED)
                 data = (SAMPLES / f"{name}.task").read_bytes()
-                self.assertEqual(task.read_bytes(), calls.file(calls.mended(calls.task(data))))
+                repaired_file = calls.file(calls.mended(calls.task(data)))
+                self.assertEqual(task.read_bytes(), taskfile.without_locks(repaired_file))
+                self.assertEqual(task.read_bytes() != repaired_file, name in self.LOCKED)
 
 
 def runs_of(many):

@@ -8,7 +8,7 @@ import subprocess
 import sys
 import time
 
-from refused_files import AT_THE_END, DISORDERED, OUTSIDE
+from refused_files import AT_THE_END, DISORDERED, LOCK_WITHOUT_NEED, OUTSIDE
 from support import LIST, REFUSED, ROOT, SAMPLES, UNABLE, Case, mend
 
 PROGRAM = '"$0/c/run.sh" "$0/target/bin/zernoplysk"'
@@ -81,10 +81,10 @@ class Stands(Case):
 
     def test_a_refused_file_is_shown_without_the_program(self):
         """Its byte and the record, as the program would have them; and not what only the number of the refusal tells."""
-        for name, (data, _, place, shown) in {**AT_THE_END, **OUTSIDE, **DISORDERED}.items():
+        for name, (data, _, place, shown) in {**AT_THE_END, **OUTSIDE, **DISORDERED, **LOCK_WITHOUT_NEED}.items():
             with self.subTest(name=name):
                 path = self.file("file", data)
-                left = [line for line in shown.splitlines() if not line.startswith(("there ", "after ", "and after "))]
+                left = [line for line in shown.splitlines() if not line.startswith(("there ", "after ", "and after ", "action "))]
                 if place == len(data) > 0:
                     left = shown.splitlines()
                 told = f"{path}: refused at byte {place}, before the program is proved and built"

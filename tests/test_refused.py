@@ -19,10 +19,11 @@ SAID = {  # the words of the refusals of a file
     3: "the sizes don't stand first, or stand there twice",
     4: "a size is out of range: 1 to 64 facts, 1 to 32 actions, limit 0 to 6",
     5: "no fact or action has this number",
-    6: "out of order: kinds never go down, bodies ascend, no need, add or delete in a further run",
+    6: "out of order: kinds never go back, bodies ascend, no need, add, delete or lock in a further run",
     7: "a run has more than 64 steps",
     8: "there are bytes after the end record",
     16: "there are more than 8 runs",
+    18: "there is a lock on a fact that the action does not need",
 }
 
 COLOURS = re.compile("\033\\[[0-9;]*m")
@@ -111,6 +112,17 @@ class Named(Case):
         told.append("after the record at byte 31: 07 01, a step: sweep")
         self.assertEqual(mend(self.source("cut 33")).stderr.splitlines()[-2:], told)
 
+    def test_a_lock_is_told_in_names_with_what_the_action_needs(self):
+        lent = mend(self.file("a.task", first(29, "0a 02 03", 0)), "--names", SAMPLES / "first.txt")
+        told = ["the record at byte 29: 0a 02 03, a lock: store-row, row-stored", "store-row needs laser-ready, direction-known"]
+        self.assertEqual(lent.stderr.splitlines()[-2:], told)
+
+    def test_many_needs_are_told_in_lines(self):
+        needs = "".join(f"04 00 {fact:02x}" for fact in range(63))
+        shown = mend(self.file("a.task", bytes.fromhex(f"01 40 01 00 {needs} 0a 00 3f 08"))).stderr.split("\n\n")[-1].splitlines()
+        self.assertEqual(" ".join(shown[1:]), "action 0 needs " + ", ".join(f"fact {fact}" for fact in range(63)))
+        self.assertLessEqual(max(map(len, shown)), 100)
+
     def test_a_number_outside_has_no_name(self):
         """The source has four facts, and the damaged file says three."""
         told = ["the record at byte 6: 03 03, a goal: fact 3", "there are 3 facts, numbered 0 to 2"]
@@ -160,7 +172,7 @@ class Terminal(Case):
 
 class Words(Case):
     def test_every_number_has_words(self):
-        self.assertEqual(sorted(refusals.WORDS), list(range(1, 18)))
+        self.assertEqual(sorted(refusals.WORDS), list(range(1, 19)))
         self.assertEqual({number: refusals.told(number) for number in SAID}, SAID)
         self.assertEqual([each for each in map(refusals.told, refusals.WORDS) if "{" in each or each.endswith(".")], [])
 

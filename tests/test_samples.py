@@ -6,13 +6,14 @@ from support import LIST, NO_LIST, REFUSED, ROOT, SAMPLES, Case, mend
 
 STATUS = {
     "first": LIST, "story": LIST, "runs": LIST, "hidden": LIST, "pairs": LIST, "fullest": LIST, "wordiest": LIST,
-    "hopeless": NO_LIST, "over": NO_LIST, "damaged": REFUSED, "torn": REFUSED, "trailing": REFUSED,
+    "locked": LIST, "lockout": NO_LIST, "hopeless": NO_LIST, "over": NO_LIST,
+    "damaged": REFUSED, "torn": REFUSED, "trailing": REFUSED,
 }  # fmt: skip
-PLACES = {"damaged": ":20:1", "torn": ":20:1", "trailing": ":51:1"}  # of the statement that damages the file
+PLACES = {"damaged": ":20:1", "torn": ":20:1", "trailing": ":52:1"}  # of the statement that damages the file
 REFUSALS = {
     "damaged": "refused 5 at byte 34: no fact or action has this number",
     "torn": "refused 1 at byte 35: the end record is missing, or a record passes the end of the file",
-    "trailing": "refused 8 at byte 21516: there are bytes after the end record",
+    "trailing": "refused 8 at byte 27660: there are bytes after the end record",
 }
 MARKED = {"damaged": "[03]", "torn": "[..]", "trailing": "[00]"}
 
@@ -38,6 +39,8 @@ WORDS = {
     "fullest": [f"Nothing is missing in run panel-{number}: the run is valid as the table stands." for number in range(1, 9)],
     "hopeless": ["  at the end: the goal map-complete is absent", "No list of repairs, of any length, makes the run valid."],
     "runs": ["5 needs are missing in run short; the first of them:", "  turn should make direction-known true"],
+    "locked": ["To change (2 repairs):", "  load-panel should not end hood-shut", "  wipe-lens should not end hood-shut"],
+    "lockout": ["A lock is why:", "  step 1, open-shutter: needs hood-shut, which is locked, and absent at the start"],
     "over": ["A list of repairs makes the run valid, but none of at most 6, which is the limit."],
 }
 
@@ -96,7 +99,7 @@ class Samples(Case):
                     ran = mend(*words.split(), cwd=ROOT)
                     self.assertEqual([line[4:] for line in shown.rstrip().splitlines()], (ran.stdout + ran.stderr).splitlines())
                     seen.add(page.name)
-        self.assertLessEqual({"README.md", "damaged.md", "hidden.md", "torn.md", "trailing.md"}, seen)
+        self.assertLessEqual({"README.md", "damaged.md", "hidden.md", "locked.md", "lockout.md", "torn.md", "trailing.md"}, seen)
 
     def test_the_longest_listing_is_as_long_as_its_page_says(self):
         listing = (SAMPLES / "wordiest.listing").read_bytes()

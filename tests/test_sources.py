@@ -8,6 +8,7 @@ RANGE = "is no range: one is written {1..3}, runs upwards, and has at most 64 nu
 LIMIT = "'limit' takes one number from 0 to 6"
 BYTE = "'byte' takes two numbers: a place in the task file, and a value from 0 to 255"
 ONE_NAME = "'run' takes one name"
+NO_LOCK = "does not need '{}', so that there is nothing to lock"
 NO_RUN = "is said of no run: it stands above every 'run', where no steps are, and each run says its own"
 
 ERRORS = {  # a source: its errors
@@ -24,6 +25,17 @@ ERRORS = {  # a source: its errors
     HEAD: ["2:1: there is no action"],
     HEAD + "action\n" + TAIL: ["3:1: an action needs a name"],
     HEAD + "needs b\n" + TAIL: ["3:1: 'needs' is said of no action: none stands above it"],
+    HEAD + "locks b\n" + TAIL: ["3:1: 'locks' is said of no action: none stands above it"],
+    HEAD + TAIL + "  locks b\n": [f"5:9: 'go' {NO_LOCK.format('b')}"],
+    HEAD + TAIL + "  locks b\n  needs b\n  locks a-known\n": [f"7:9: 'go' {NO_LOCK.format('a-known')}"],
+    HEAD + TAIL + "  adds b\n  locks b\naction stop\n  needs b\n": [f"6:9: 'go' {NO_LOCK.format('b')}"],
+    HEAD + TAIL + "action s-{1..3}\n  locks b\n": [f"6:9: 's-1' {NO_LOCK.format('b')}"],
+    HEAD + TAIL + "  needs b\n  locks b\n  locks b\n": ["7:9: 'b' is said twice under 'locks': first on line 6"],
+    HEAD + TAIL + "  needs b\n  locks zzz go\n": ["6:9: there is no fact 'zzz'", "6:13: 'go' is no fact, but an action"],
+    HEAD + TAIL + "  needs bb\n  locks b\n": ["5:9: there is no fact 'bb'; did you mean 'b'?"],
+    HEAD + TAIL + "  needs b{2..1}\n  locks b\n": [f"5:9: 'b{{2..1}}' {RANGE}"],
+    HEAD + TAIL + "  needs b\n  lock b\n": ["6:3: 'lock' is no statement; did you mean 'locks'?"],
+    HEAD + "action\n  locks b\n" + TAIL: ["3:1: an action needs a name"],
     HEAD + "facts  c b\n" + TAIL: ["3:10: the fact 'b' is declared twice: first on line 2"],
     HEAD + TAIL + "action go\n": ["5:8: the action 'go' is declared twice: first on line 3"],
     HEAD + "start b b\n" + TAIL: ["3:9: 'b' is said twice under 'start': first on line 3"],

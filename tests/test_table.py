@@ -162,11 +162,20 @@ class RandomTables(unittest.TestCase):
         self.random.shuffle(words)
         return words
 
+    def some(self, facts):
+        return self.random.sample(facts, self.random.randint(0, len(facts)))
+
+    def cells(self, facts):
+        """Of some kinds of cells in any order the facts; locks are on needs alone."""
+        said = {kind: self.some(range(facts)) for kind in self.some(["needs", "adds", "deletes"])}
+        said |= {"locks": self.some(said["needs"])} if "needs" in said else {}
+        return self.random.sample(list(said.items()), len(said))
+
     def block(self, first, count, facts):
         pick = self.random.choice
         lines = ["action " + " ".join(self.ranges_in_order(first, count)) + pick(["", " # said of them"])]
-        for kind in self.random.sample(["needs", "adds", "deletes"], self.random.randint(0, 3)):
-            words = self.ranges(self.random.sample(range(facts), self.random.randint(0, facts)), "f-")
+        for kind, said in self.cells(facts):
+            words = self.ranges(said, "f-")
             cut = self.random.randint(0, len(words))
             for part in (words[:cut], words[cut:]):
                 said = kind + pick([" ", "   "]) + pick([" ", "  "]).join(part)
@@ -197,7 +206,8 @@ class RandomTables(unittest.TestCase):
             for action in range(task.actions):
                 permitted += [(fact, 0, action)] if (taskfile.DELETE, action, fact) in task.cells else []
                 permitted += [(fact, 1, action)] if (taskfile.ADD, action, fact) not in task.cells else []
-                permitted += [(fact, 2, action)] if (taskfile.NEED, action, fact) in task.cells else []
+                is_locked = (action, fact) in task.locks()
+                permitted += [(fact, 2, action)] if (taskfile.NEED, action, fact) in task.cells and not is_locked else []
         return sorted(self.random.sample(permitted, min(len(permitted), self.random.choice([0, 1, 2, 3, 6, 12]))))
 
     def test_equal_to_apply(self):
@@ -217,6 +227,7 @@ class RandomTables(unittest.TestCase):
             self.assertEqual(taskfile.file_of(source.read(made)), room[: words[2]], text)
             self.assertEqual(comments(made), comments(text))
         self.assertGreater(sum(map(bool, lists)), self.COUNT / 2)
+        self.assertGreater(sum(bool(taskfile.task_of(data).locks()) for data in datas), self.COUNT / 4)
 
 
 def comments(text):

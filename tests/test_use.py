@@ -69,7 +69,7 @@ class Input(Case):
     def test_input_without_end(self):
         told = [f"/dev/zero: refused 2 at byte 0: no record has this kind{NO_TEXT}", ""]
         told += ["   0 [00]" + " ".join(["00"] * 15), "  16  " + " ".join(["00"] * 16), ""]
-        told += ["the record at byte 0: 00, and no record has this kind: kinds are 01 to 09"]
+        told += ["the record at byte 0: 00, and no record has this kind: kinds are 01 to 0a"]
         self.expect(mend("/dev/zero"), REFUSED, told)
 
     def test_a_source_that_is_too_long(self):
