@@ -35,11 +35,12 @@ Long t = (k : ℕ) → k < kinds → length (setsOf t k) ≡ maxActions
 pub shaped-long : (t : Task) → Shaped t → Long (t .table)
 shaped-long t s = kind-cases (λ k. length (setsOf (t .table) k) ≡ maxActions) (s .deletes) (s .adds) (s .needs)
 
-pub long-shaped : (u : Table) (t : Task) → Long u → Shaped t → Shaped (record { table = u; runs = t .runs })
-long-shaped u t long s = record {
+pub long-shaped : (u : Table) (t : Task) → Long u → u .locks ≡ t .table .locks → Shaped t → Shaped (record { table = u; runs = t .runs })
+long-shaped u t long locks s = record {
   needs = long dropNeed (omega arith);
   adds = long addEffect (omega arith);
   deletes = long dropDelete (omega arith);
+  locks = ap length locks ∙ s .locks;
   starts = s .starts;
   goals = s .goals;
   counts = s .counts;
@@ -87,6 +88,11 @@ module _ (t : Table) (a f : ℕ) (p : Bool) where
       kind-cases
       (λ k. (kindSet t k a f p .facts ≡ t .facts) × (kindSet t k a f p .actions ≡ t .actions) × (kindSet t k a f p .limit ≡ t .limit))
       (refl, refl, refl) (refl, refl, refl) (refl, refl, refl)
+
+  -- and so are the locks
+  pub locks-kindSet : (k : ℕ) → k < kinds → kindSet t k a f p .locks ≡ t .locks
+  unfolding kindSet
+  locks-kindSet = kind-cases (λ k. kindSet t k a f p .locks ≡ t .locks) refl refl refl
 
 -- ---- numbers made one after another: at the loop's start and after a turn
 

@@ -1,6 +1,6 @@
 -- What two tasks can have in common, and what follows: a change inside the task keeps it well formed, and a fact that is the same keeps the
 -- lists that keep it right. Assumes nothing.
-use mathlib.Core.Bool.{false}
+use mathlib.Core.Bool.{true, false}
 use mathlib.Core.List.{List}
 use mathlib.Core.Path.{_≡_, refl, sym, ap, _∙_}
 use Prim.Native.Nat.{ℕ, _+_, _*_, _<_, _≤_}
@@ -29,14 +29,15 @@ pub record SameSizes (t u : Task) : Type 0 where
   pub counts : u .runs .counts ≡ t .runs .counts
   pub steps : u .runs .steps ≡ t .runs .steps
 
--- the needs, adds and deletes of fact g, its start and its goal in each run, and all sizes and steps
+-- the needs, adds, deletes and locks of fact g, its start and its goal in each run, and all sizes and steps
 pub record SameFact (g : ℕ) (t u : Task) : Type 0 where
   pub sizes : SameSizes t u
   pub cell : (k a : ℕ) → k < kinds → has (maskOf (u .table) k a) g ≡ has (maskOf (t .table) k a) g
+  pub lock : (a : ℕ) → cellsOf (u .table) .locks a g ≡ cellsOf (t .table) .locks a g
   pub start : (r : ℕ) → has (startOf (u .runs) r) g ≡ has (startOf (t .runs) r) g
   pub goal : (r : ℕ) → has (goalOf (u .runs) r) g ≡ has (goalOf (t .runs) r) g
 
--- every cell whose fact, action or run is outside
+-- every cell but the locks whose fact, action or run is outside
 pub record SameOutside (t u : Task) : Type 0 where
   pub shaped : Shaped u
   pub sizes : SameSizes t u
@@ -48,7 +49,8 @@ pub record SameOutside (t u : Task) : Type 0 where
 -- ---- equal sizes and equal cells are equal tables
 
 module _ (u v : Task) (su : Shaped u) (sv : Shaped v)
-    (cell : (k a f : ℕ) → k < kinds → has (maskOf (u .table) k a) f ≡ has (maskOf (v .table) k a) f) where
+    (cell : (k a f : ℕ) → k < kinds → has (maskOf (u .table) k a) f ≡ has (maskOf (v .table) k a) f)
+    (lock : (a f : ℕ) → cellsOf (u .table) .locks a f ≡ cellsOf (v .table) .locks a f) where
   same-rows : (k : ℕ) → k < kinds → setsOf (u .table) k ≡ setsOf (v .table) k
   same-rows k hk =
       ext-getD 0 (setsOf (u .table) k) (setsOf (v .table) k) (shaped-long u su k hk ∙ sym (shaped-long v sv k hk)) (λ a h.
@@ -56,18 +58,25 @@ module _ (u v : Task) (su : Shaped u) (sv : Shaped v)
       same-sets (maskOf (u .table) k a) (maskOf (v .table) k a) (λ f. cell k a f hk) ∙
       mask-sets (v .table) a k hk)
 
+  same-locks : u .table .locks ≡ v .table .locks
+  unfolding cellsOf
+  same-locks =
+      ext-getD 0 (u .table .locks) (v .table .locks) (su .locks ∙ sym (sv .locks)) (λ a _.
+      same-sets (getD (u .table .locks) a 0) (getD (v .table .locks) a 0) (lock a))
+
   pub same-table : u .table .facts ≡ v .table .facts → u .table .actions ≡ v .table .actions → u .table .limit ≡ v .table .limit
       → u .table ≡ v .table
   same-table facts actions limit =
       let needs : u .table .needs ≡ v .table .needs = same-rows dropNeed (omega arith) in
       let adds : u .table .adds ≡ v .table .adds = same-rows addEffect (omega arith) in
       let deletes : u .table .deletes ≡ v .table .deletes = same-rows dropDelete (omega arith) in
-      λ i. record { facts = facts i; actions = actions i; limit = limit i; needs = needs i; adds = adds i; deletes = deletes i }
+      λ i. record { facts = facts i; actions = actions i; limit = limit i; needs = needs i; adds = adds i; deletes = deletes i; locks = same-locks i }
 
--- ---- a change inside the task keeps it well formed
+-- ---- a change inside the task that leaves no lock without a need keeps it well formed
 
-pub outside-well : (t u : Task) → WellFormed t → SameOutside t u → WellFormed u
-outside-well t u w o = record {
+pub outside-well : (t u : Task) → WellFormed t → SameOutside t u
+    → ((a f : ℕ) → cellsOf (u .table) .locks a f ≡ true → cellsOf (u .table) .needs a f ≡ true) → WellFormed u
+outside-well t u w o locks = record {
   shaped = o .shaped;
   facts-low = omega (arith, w .facts-low);
   facts-high = omega (arith, w .facts-high);
@@ -80,6 +89,7 @@ outside-well t u w o = record {
   inside = λ k a f h.
       byKind-all (λ (m : ℕ). has m f ≡ false) k (empty dropDelete a f (omega arith) h) (empty addEffect a f (omega arith) h)
       (empty dropNeed a f (omega arith) h);
+  locks-needs = locks;
   start-inside = λ r f h.
       let l : t .table .facts ≤ f = omega arith in
       o .start r f (λ m _. absurd (omega arith)) ∙ w .start-inside r f l;
@@ -129,6 +139,7 @@ module _ (g : ℕ) (t u : Task) (s : SameFact g t u) where
     needs = λ a. sym (s .cell dropNeed a (omega arith));
     adds = λ a. sym (s .cell addEffect a (omega arith));
     deletes = λ a. sym (s .cell dropDelete a (omega arith));
+    locks = λ a. sym (s .lock a);
   }
 
   pub same-courses : SameCoursesAt g (coursesOf t) (coursesOf u)

@@ -1,4 +1,5 @@
-// Editing one cell (document 01, "The session table"): which fact the edit names, whether it is in the task, and the edited task.
+// Editing one cell (document 01, "The session table"): which fact the edit names, whether it is in the task, whether it would
+// leave a lock without a need, and the edited task.
 use crate::Cell;
 use crate::Edit;
 use crate::cells;
@@ -7,7 +8,7 @@ use table::Task;
 use table::cells::set_in_run;
 use table::repair::Repair;
 ghost use mathlib.Core.Path.{_≡_};
-ghost use Rattle.change.specs.Editing.{edited, cellFact, cellInside};
+ghost use Rattle.change.specs.Editing.{edited, cellFact, cellInside, leavesLock};
 
 // The fact whose row an edit writes afresh.
 pub fn cell_fact(e: Edit) -> usize
@@ -20,11 +21,12 @@ pub fn cell_fact(e: Edit) -> usize
         Cell::Delete { action, fact } => fact,
         Cell::Start { run, fact } => fact,
         Cell::Goal { run, fact } => fact,
+        Cell::Lock { action, fact } => fact,
     }
 }
 
-// Whether the edit names a fact, and for a need, an add or a delete an action, for a start or a goal a run, that is in the task
-// (refusal 14 if not).
+// Whether the edit names a fact, and for a need, an add, a delete or a lock an action, for a start or a goal a run, that is in the
+// task (refusal 14 if not).
 pub fn is_inside(t: Task, e: Edit) -> bool
     ensures { λ r. ⌜ r ≡ cellInside t (e .cell) ⌝ }
 {
@@ -38,47 +40,64 @@ pub fn is_inside(t: Task, e: Edit) -> bool
         Cell::Delete { action, fact } => (action < actions) & (fact < facts),
         Cell::Start { run, fact } => (run < many) & (fact < facts),
         Cell::Goal { run, fact } => (run < many) & (fact < facts),
+        Cell::Lock { action, fact } => (action < actions) & (fact < facts),
     }
 }
 
-// The task with the cell set; for any task and any edit, so that callers need no more than `is_inside` for refusal 14.
+// Refusal 18 (02, request 6): "a lock set on a cell that isn't a need, or a need cleared under a lock".
+pub fn leaves_lock(t: Task, e: Edit) -> bool
+    ensures { λ r. ⌜ r ≡ leavesLock t e ⌝ }
+{
+    let cell = e.cell;
+    let present = e.present;
+    let table = t.table;
+    match cell {
+        Cell::Need { action, fact } => !present & cells::is_set(&table.locks, action, fact),
+        Cell::Add { action, fact } => false,
+        Cell::Delete { action, fact } => false,
+        Cell::Start { run, fact } => false,
+        Cell::Goal { run, fact } => false,
+        Cell::Lock { action, fact } => present & !cells::is_set(&table.needs, action, fact),
+    }
+}
+
+// The task with the cell set; for any task and any edit, so that callers need no more than `is_inside` for refusal 14 and
+// `leaves_lock` for 18.
 pub fn set_cell(t: Task, e: Edit) -> Task
     ensures { λ r. ⌜ r ≡ edited t e ⌝ }
 {
     let cell = e.cell;
     let present = e.present;
-    let before = t.table;
+    let table = t.table;
     let runs = t.runs;
     match cell {
         Cell::Need { action, fact } => {
-            let table = cells::set_of_kind(before, Repair::DROP_NEED, action, fact, present);
+            let table = cells::set_of_kind(table, Repair::DROP_NEED, action, fact, present);
             Task { table, runs }
         }
         Cell::Add { action, fact } => {
-            let table = cells::set_of_kind(before, Repair::ADD_EFFECT, action, fact, present);
+            let table = cells::set_of_kind(table, Repair::ADD_EFFECT, action, fact, present);
             Task { table, runs }
         }
         Cell::Delete { action, fact } => {
-            let table = cells::set_of_kind(before, Repair::DROP_DELETE, action, fact, present);
+            let table = cells::set_of_kind(table, Repair::DROP_DELETE, action, fact, present);
             Task { table, runs }
         }
         Cell::Start { run, fact } => {
             let sets = runs.starts;
             let starts = set_in_run(sets, run, fact, present);
             let runs = Runs { starts, ..runs };
-            Task {
-                table: before,
-                runs,
-            }
+            Task { table, runs }
         }
         Cell::Goal { run, fact } => {
             let sets = runs.goals;
             let goals = set_in_run(sets, run, fact, present);
             let runs = Runs { goals, ..runs };
-            Task {
-                table: before,
-                runs,
-            }
+            Task { table, runs }
+        }
+        Cell::Lock { action, fact } => {
+            let table = cells::set_lock(table, action, fact, present);
+            Task { table, runs }
         }
     }
 }

@@ -18,14 +18,14 @@ set-in-requires-3 c κs = search needs
 returns : tie.Need-returns
 unfolding kindSet
 returns c =
-    let set = c .before .before in
+    let set = c .before .before .before in
     let then = set .before .before in
     rw (set .set-in .ensures, eq-eqb (then .before .args .kind) dropDelete (then .if1 .taken))
 
 returns-2 : tie.Need-returns-2
 unfolding kindSet
 returns-2 c =
-    let set = c .before .before in
+    let set = c .before .before .before in
     let then = set .before .before in
     let else = then .before in
     let kind = else .before .args .kind in
@@ -34,7 +34,7 @@ returns-2 c =
 returns-3 : tie.Need-returns-3
 unfolding kindSet
 returns-3 c =
-    let set = c .before .before in
+    let set = c .before .before .before in
     let last = set .before .before in
     let else = last .before in
     let kind = else .before .args .kind in

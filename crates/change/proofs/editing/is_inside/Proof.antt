@@ -19,6 +19,9 @@ enum-known-cell-4 c = search needs
 enum-known-cell-5 : tie.Need-enum-known-cell-5
 enum-known-cell-5 c = search needs
 
+enum-known-cell-6 : tie.Need-enum-known-cell-6
+enum-known-cell-6 c = search needs
+
 returns : tie.Need-returns
 unfolding cellInside
 returns c = rw (c .before .cell .given .1)
@@ -39,6 +42,10 @@ returns-5 : tie.Need-returns-5
 unfolding cellInside
 returns-5 c = rw (c .before .cell5 .given .1)
 
+returns-6 : tie.Need-returns-6
+unfolding cellInside
+returns-6 c = rw (c .before .cell6 .given .1)
+
 pub is-inside-spec : {M : Type 1} → statement M
 is-inside-spec =
     tie.close
@@ -48,8 +55,10 @@ is-inside-spec =
     enum-known-cell-3
     enum-known-cell-4
     enum-known-cell-5
+    enum-known-cell-6
     returns
     returns-2
     returns-3
     returns-4
-    returns-5)
+    returns-5
+    returns-6)

@@ -35,6 +35,12 @@ enum-known-cell-5 c = search needs
 set-in-run-requires-2 : tie.Need-set-in-run-requires-2
 set-in-run-requires-2 c κs = search needs
 
+enum-known-cell-6 : tie.Need-enum-known-cell-6
+enum-known-cell-6 c = search needs
+
+set-lock-requires : tie.Need-set-lock-requires
+set-lock-requires c κs = search needs
+
 returns : tie.Need-returns
 unfolding setCell kindSet
 returns c = rw (c .set-of-kind .ensures, c .before .before .cell .given .1)
@@ -55,6 +61,10 @@ returns-5 : tie.Need-returns-5
 unfolding setCell
 returns-5 c = let set = c .before .before .before in rw (set .set-in-run2 .ensures, set .before .before .before .cell5 .given .1)
 
+returns-6 : tie.Need-returns-6
+unfolding setCell
+returns-6 c = rw (c .set-lock .ensures, c .before .before .cell6 .given .1)
+
 pub set-cell-spec : {M : Type 1} → statement M
 set-cell-spec =
     tie.close
@@ -69,8 +79,11 @@ set-cell-spec =
     set-in-run-requires
     enum-known-cell-5
     set-in-run-requires-2
+    enum-known-cell-6
+    set-lock-requires
     returns
     returns-2
     returns-3
     returns-4
-    returns-5)
+    returns-5
+    returns-6)
