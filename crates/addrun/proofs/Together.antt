@@ -12,8 +12,10 @@ use Rattle.facts.specs.Sets.{has}
 use Rattle.facts.proofs.Laws.{has-empty}
 use Rattle.table.proofs.FlagLaws.{by-order}
 use Rattle.table.proofs.Formation.{well-formed}
+use Rattle.table.proofs.RunLaws.{sameCourse-refl, valid-all-right, right-all-valid, all-right-same}
 use Rattle.table.specs.Sizes.{maxActions, maxRuns, maxSteps, allSteps}
-use Rattle.table.specs.Tasks.{cellsOf, startOf, goalOf, countOf, stepOf, unlocked, unlockedTask, WellFormed}
+use Rattle.table.specs.Strips.{AllValid}
+use Rattle.table.specs.Tasks.{cellsOf, coursesOf, startOf, goalOf, countOf, stepOf, unlocked, unlockedTask, WellFormed}
 use Rattle.table.specs.declared.Runs.{Runs}
 use Rattle.table.specs.declared.Table.{Table}
 use Rattle.table.specs.declared.Task.{Task}
@@ -188,3 +190,15 @@ module _ (t : Task) (w : WellFormed t) where
       let last = t .runs .many - 1 in
       let all : suc last ≡ t .runs .many = omega (arith, w .many-low) in
       subst WellFormed (ap (built t) all ∙ together) (built-well last (omega arith))
+
+-- A run does not look at locks: those that are valid in a table are valid in what comes back.
+pub unlocked-valid : (t : Task) → AllValid (cellsOf (t .table)) (coursesOf t) → AllValid (cellsOf (unlocked (t .table))) (coursesOf t)
+unfolding cellsOf
+unlocked-valid t valid =
+    let rs = coursesOf t in
+    let c = cellsOf (t .table) in
+    let d = cellsOf (unlocked (t .table)) in
+    right-all-valid d rs
+    (λ f.
+    all-right-same f rs rs c d (λ i h. record { needs = λ j l. refl; adds = λ j l. refl; deletes = λ j l. refl })
+    (record { many = refl; each = λ i h. sameCourse-refl f (rs .course i) }) (valid-all-right c rs valid f))
