@@ -1,5 +1,5 @@
 -- Laws of applying a list: numbers made one after another are made at once; the answer is the only one; a well-formed task stays well
--- formed, and a list that works makes every run valid. Assumes nothing.
+-- formed, no locked need is gone, and a list that works makes every run valid. Assumes nothing.
 use mathlib.Core.Bool.{Bool, true, false, _&&_, _||_, cond, or-false, and-false, and-or-distrib-left}
 use mathlib.Core.List.{List, [], _∷_}
 use mathlib.Core.Path.{_≡_, refl, sym, ap, _∙_, subst}
@@ -13,6 +13,7 @@ use borrow.Author.Tests.{ltb-true, lt-ltb, le-ltb, eqb-true, eq-eqb}
 use Rattle.facts.specs.Sets.{width, has}
 use Rattle.table.proofs.Formation.{formed-well}
 use Rattle.table.proofs.FlagLaws.{same-flag, is-false, both, and-both}
+use Rattle.table.proofs.LockLaws.{locked-stands}
 use Rattle.table.proofs.OrderLaws.{isIn-append}
 use Rattle.table.proofs.ReplyLaws.{one-answer}
 use Rattle.table.proofs.RepairNumbers.{kind-cases, kindOf-lt, actionOf-lt, permitted-inside, permitted-number, permits-inside}
@@ -31,7 +32,7 @@ use Rattle.table.specs.declared.Task.{Task}
 use Rattle.apply.specs.Applying.{firstWrong, applyRefusal, AppliedTo, Applies}
 use Rattle.table.specs.declared.TaskReply.{TaskReply}
 use Rattle.change.specs.Kinds.{numberSet, oneByOne}
-use Rattle.change.proofs.KindLaws.{Long, shaped-long, long-shaped, long-kindSet, cell-kindSet, sizes-kindSet}
+use Rattle.change.proofs.KindLaws.{Long, shaped-long, long-shaped, long-kindSet, cell-kindSet, sizes-kindSet, locks-kindSet}
 use Rattle.change.proofs.SameLaws.{outside-well, same-table}
 use Rattle.change.proofs.MemberLaws.{getD-isIn}
 use Rattle.apply.proofs.PermittedLaws.{firstWrong-le, permitted-list}
@@ -95,6 +96,13 @@ module _ (t : Table) (long : Long t) (l : List ℕ) where
       let before = sizes-oneByOne i in
       (more .0 ∙ before .0, more .1 ∙ before .1, more .2 ∙ before .2)
 
+  locks-oneByOne : (i : ℕ) → oneByOne t l i .locks ≡ t .locks
+  unfolding oneByOne numberSet
+  locks-oneByOne zero = refl
+  locks-oneByOne (suc i) =
+      let n = getD l i 0 in
+      locks-kindSet (oneByOne t l i) (actionOf n) (factOf n) (eqb (kindOf n) addEffect) (kindOf n) (kindOf-lt n) ∙ locks-oneByOne i
+
   cell-oneByOne : ((j : ℕ) → j < length l → factOf (getD l j 0) < width) → (i : ℕ) → i ≤ length l → (k a g : ℕ) → k < kinds
       → has (maskOf (oneByOne t l i) k a) g ≡ cond (chosen (isIn (take i l)) g k a) (eqb k addEffect) (has (maskOf t k a) g)
   unfolding oneByOne numberSet chosen isIn
@@ -127,13 +135,14 @@ unfolding cellsOf
 made-applied t l s fits =
     let long = shaped-long t s in
     let sizes = sizes-oneByOne (t .table) long l (length l) in
+    let locks = locks-oneByOne (t .table) long l (length l) in
     let cell : (k a g : ℕ) → k < kinds
     → has (maskOf (oneByOne (t .table) l (length l)) k a) g ≡ cond (chosen (isIn l) g k a) (eqb k addEffect) (has (maskOf (t .table) k a) g) =
     λ k a g hk.
     cell-oneByOne (t .table) long l fits (length l) (le-refl (length l)) k a g hk ∙
     ap (λ (w : List ℕ). cond (chosen (isIn w) g k a) (eqb k addEffect) (has (maskOf (t .table) k a) g)) (take-length l) in
     record {
-      shaped = long-shaped (oneByOne (t .table) l (length l)) t (long-oneByOne (t .table) long l (length l)) s;
+      shaped = long-shaped (oneByOne (t .table) l (length l)) t (long-oneByOne (t .table) long l (length l)) locks s;
       runs = refl;
       facts = sizes .0;
       actions = sizes .1;
@@ -141,6 +150,7 @@ made-applied t l s fits =
       needs = λ a f. cell dropNeed a f (omega arith) ∙ sym (dropped (has (maskOf (t .table) dropNeed a) f) (chosen (isIn l) f dropNeed a));
       adds = λ a f. cell addEffect a f (omega arith) ∙ sym (added (has (maskOf (t .table) addEffect a) f) (chosen (isIn l) f addEffect a));
       deletes = λ a f. cell dropDelete a f (omega arith) ∙ sym (dropped (has (maskOf (t .table) dropDelete a) f) (chosen (isIn l) f dropDelete a));
+      locks = λ a f. ap (λ (m : List ℕ). has (getD m a 0) f) locks;
     }
 
 -- ---- the task with a list applied is the only one, and stays well formed
@@ -149,6 +159,7 @@ pub applied-unique : (t : Task) (l : List ℕ) (u v : Task) → AppliedTo t l u 
 applied-unique t l u v d e =
     let table =
     same-table u v (d .shaped) (e .shaped) (λ k a f hk. applied-cell t l u d a f k hk ∙ sym (applied-cell t l v e a f k hk))
+    (λ a f. d .locks a f ∙ sym (e .locks a f))
     (d .facts ∙ sym (e .facts)) (d .actions ∙ sym (e .actions)) (d .limit ∙ sym (e .limit)) in
     let runs = d .runs ∙ sym (e .runs) in
     λ i. record { table = table i; runs = runs i }
@@ -162,6 +173,11 @@ chosen-outside c l p g k a hk out =
     let inside =
     permits-inside c g k a (sym (permitted-number c g k a hk (ltb-true a maxActions (q .0))) ∙ p .each (numberOf g k a) (q .1)) in
     out (inside .0) (inside .1))
+
+-- "no list may drop them": a locked need stands in the task with a permitted list applied (02, request 6)
+pub applied-locked : (t : Task) (l : List ℕ) (u : Task) → AppliedTo t l u → Permitted (cellsOf (t .table)) l → (a f : ℕ)
+    → cellsOf (t .table) .locks a f ≡ true → cellsOf (t .table) .needs a f ≡ true → cellsOf (u .table) .needs a f ≡ true
+applied-locked t l u d p a f lock need = d .needs a f ∙ locked-stands (cellsOf (t .table)) l (p .each) a f lock need
 
 pub applied-well : (t : Task) (l : List ℕ) (u : Task) → WellFormed t → Permitted (cellsOf (t .table)) l → AppliedTo t l u → WellFormed u
 unfolding cellsOf
@@ -183,6 +199,7 @@ applied-well t l u w p d =
       start = λ i g _. ap (λ (r : Runs). has (startOf r i) g) (d .runs);
       goal = λ i g _. ap (λ (r : Runs). has (goalOf r i) g) (d .runs);
     })
+    (λ a f lock. applied-locked t l u d p a f (sym (d .locks a f) ∙ lock) (w .locks-needs a f (sym (d .locks a f) ∙ lock)))
 
 -- a list that works, applied, gives a task whose runs are valid as it stands
 pub applied-valid : (t : Task) (l : List ℕ) (u : Task) → AppliedTo t l u → WorksFor t l → AllValid (cellsOf (u .table)) (coursesOf u)

@@ -14,7 +14,7 @@ use Rattle.table.specs.Tasks.{cellsOf, formed, Shaped}
 use Rattle.table.specs.declared.Task.{Task}
 use Rattle.table.specs.declared.TaskReply.{TaskReply}
 
--- 15: the number at an index does not ascend, or names no permitted repair.
+-- 15: the number at an index does not ascend, or names no permitted repair; that of a locked need is none (02, request 6).
 unfoldable pub wrongAt : Cells → List ℕ → ℕ → Bool
 wrongAt c l i = (ltb 0 i && leb (getD l i 0) (getD l (i - 1) 0)) || not (permitted c (getD l i 0))
 
@@ -32,7 +32,7 @@ applyRefusal t l =
     wrong = firstWrong (cellsOf (t .table)) l
 
 -- The task u is t with the list applied, all cells at once (001, Definition 2): sizes and runs as they were, and each
--- cell that of the repaired table.
+-- cell that of the repaired table; no repair changes a lock (02, request 6).
 pub record AppliedTo (t : Task) (l : List ℕ) (u : Task) : Type 0 where
   pub shaped : Shaped u
   pub runs : u .runs ≡ t .runs
@@ -42,6 +42,7 @@ pub record AppliedTo (t : Task) (l : List ℕ) (u : Task) : Type 0 where
   pub needs : (a f : ℕ) → cellsOf (u .table) .needs a f ≡ repaired (cellsOf (t .table)) (isIn l) .needs a f
   pub adds : (a f : ℕ) → cellsOf (u .table) .adds a f ≡ repaired (cellsOf (t .table)) (isIn l) .adds a f
   pub deletes : (a f : ℕ) → cellsOf (u .table) .deletes a f ≡ repaired (cellsOf (t .table)) (isIn l) .deletes a f
+  pub locks : (a f : ℕ) → cellsOf (u .table) .locks a f ≡ cellsOf (t .table) .locks a f
 
 -- What a call gives: the refusal with the task given, or 0, 0 and the task with the list applied.
 pub record Applies (t : Task) (l : List ℕ) (r : TaskReply) : Type 0 where
