@@ -335,7 +335,7 @@ module _ (col : Column) (r : Course) (s : Choice) (j i : ℕ) (formed : RunForme
           → (code : ℕ) × (code < perFact) × (inChoice q code ≡ true) × (R (codeNumber (col .fact) code) ≡ true)
       pick (inl w) = (w .0, w .1, and-left _ _ (w .2), and-right (inChoice q (w .0)) _ (w .2))
       pick (inr none) =
-          absurd (not-right R none (λ a locked. locked-stands (cellsIn col) l (keeps .permitted) a (col .fact) locked) (keeps .right 0 (omega arith)) (missing .needed))
+          absurd (not-right R none (λ a locked. locked-stands (cellsIn col) l (keeps .permitted .each) a (col .fact) locked) (keeps .right 0 (omega arith)) (missing .needed))
 
   -- The conflict's repairs are those that 01 names.
   offered-named : (code : ℕ) → code < perFact → inChoice q code ≡ true → Named col r s j code
