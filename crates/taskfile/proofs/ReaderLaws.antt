@@ -9,7 +9,7 @@ use lib.ListN.{getD, set}
 use Rattle.table.specs.Sizes.{maxSteps}
 use Rattle.table.specs.Setting.{setIn}
 use Rattle.table.specs.Tasks.{countOf, Shaped}
-use Rattle.taskformat.specs.Format.{sizesKind, startKind, goalKind, needKind, addKind, deleteKind, stepKind}
+use Rattle.taskformat.specs.Format.{sizesKind, startKind, goalKind, needKind, addKind, deleteKind, lockKind, stepKind}
 use Rattle.taskformat.specs.Reading.{Seen, lastRun, kindAt, byteAt, bodyAt, tableAfter, runsAfter, seenAfter}
 use Rattle.taskformat.proofs.Clear.{Clear}
 use Rattle.taskformat.proofs.OneMore.{taskAfter, shaped-after}
@@ -18,18 +18,18 @@ use Rattle.records.specs.declared.known.Known.{Known}
 use Rattle.taskfile.specs.Numbers.{knownOf, manyAfter}
 
 -- What is seen after a record: the numbers, and of the arrays those that the record's kind names.
-pub one-more : (s : List ℕ) (at : ℕ) (k : Known) (n a d b g c t : List ℕ) {kind x y run : ℕ} {k′ : Known} {n′ a′ d′ b′ g′ c′ t′ : List ℕ}
+pub one-more : (s : List ℕ) (at : ℕ) (k : Known) (n a d l b g c t : List ℕ) {kind x y run : ℕ} {k′ : Known} {n′ a′ d′ l′ b′ g′ c′ t′ : List ℕ}
     → getD c (k .runs - 1) 0 ≡ k .count → kind ≡ kindAt s at → x ≡ byteAt s at 0 → y ≡ byteAt s at 1 → run ≡ k .runs - 1
     → k′ ≡ knownOf (seenAfter s at (seenOf k)) c′
     → n′ ≡ cond (eqb kind needKind) (setIn n x y true) n → a′ ≡ cond (eqb kind addKind) (setIn a x y true) a
-    → d′ ≡ cond (eqb kind deleteKind) (setIn d x y true) d
+    → d′ ≡ cond (eqb kind deleteKind) (setIn d x y true) d → l′ ≡ cond (eqb kind lockKind) (setIn l x y true) l
     → b′ ≡ cond (eqb kind startKind) (setIn b run x true) b → g′ ≡ cond (eqb kind goalKind) (setIn g run x true) g
     → c′ ≡ cond (eqb kind stepKind) (set c run (k .count + 1)) c
     → t′ ≡ cond (eqb kind stepKind) (set t (maxSteps * run + k .count) x) t
-    → seenWith k′ n′ a′ d′ b′ g′ c′ t′ ≡ seenAfter s at (seenWith k n a d b g c t)
+    → seenWith k′ n′ a′ d′ l′ b′ g′ c′ t′ ≡ seenAfter s at (seenWith k n a d l b g c t)
 unfolding seenAfter tableAfter runsAfter
-one-more s at k n a d b g c t counted is first second last numbers needs adds deletes starts goals counts steps =
-    rw (numbers, needs, adds, deletes, starts, goals, counts, steps, is, first, second, last, counted)
+one-more s at k n a d l b g c t counted is first second last numbers needs adds deletes locks starts goals counts steps =
+    rw (numbers, needs, adds, deletes, locks, starts, goals, counts, steps, is, first, second, last, counted)
 
 pub shaped-next : (s : List ℕ) (at : ℕ) (seen : Seen) → Shaped (seen .task) → Shaped (seenAfter s at seen .task)
 unfolding seenAfter taskAfter

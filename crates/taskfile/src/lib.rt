@@ -1,4 +1,4 @@
-// Reading the task file (document 01, "The task file"; 02, request 1): one pass over the records, with what they have said so far.
+// Reading the task file (document 01, "The task file"; 02, requests 1 and 6): one pass over the records, with what they have said so far.
 mod seen;
 mod store;
 
@@ -23,11 +23,11 @@ use table::refusals;
 ghost use mathlib.Core.Path.{_≡_};
 ghost use Rattle.taskformat.specs.Lengths.{programRoom};
 ghost use Rattle.taskformat.specs.Reading.{ReadsFile, acceptedRead, refusedRead, noTask};
-ghost use Rattle.records.specs.Records.{seenWith};
+ghost use Rattle.taskfile.specs.Numbers.{runsRead, taskRead};
 
 // How much of a file the program reads: longer than any file is, so that later bytes can't alter its answer (document 01,
-// "The listing"; 02, request 1).
-pub const MOST_INPUT: usize = 24_000;
+// "The listing"; 02, request 6).
+pub const MOST_INPUT: usize = 28_000;
 
 // The code's number is the definitions'.
 pub fn longest_input() -> usize
@@ -48,6 +48,7 @@ pub fn no_task() -> Task
             needs: [0; ACTIONS],
             adds: [0; ACTIONS],
             deletes: [0; ACTIONS],
+            locks: [0; ACTIONS],
         },
         runs: Runs {
             many: 0,
@@ -70,17 +71,35 @@ fn refused(number: usize, place: usize) -> TaskReply
     }
 }
 
+// The runs as they were read.
+fn runs_read(
+    many: usize,
+    starts: [u64; RUNS],
+    goals: [u64; RUNS],
+    counts: [usize; RUNS],
+    steps: [u8; ALL_STEPS],
+) -> Runs
+    ensures { λ r. ⌜ r ≡ runsRead many starts goals counts steps ⌝ }
+{
+    Runs {
+        many,
+        starts,
+        goals,
+        counts,
+        steps,
+    }
+}
+
+// The task as it was read.
 fn read_as(
     known: Known,
     needs: [u64; ACTIONS],
     adds: [u64; ACTIONS],
     deletes: [u64; ACTIONS],
-    starts: [u64; RUNS],
-    goals: [u64; RUNS],
-    counts: [usize; RUNS],
-    steps: [u8; ALL_STEPS],
+    locks: [u64; ACTIONS],
+    runs: Runs,
 ) -> TaskReply
-    ensures { λ r. ⌜ r ≡ acceptedRead (seenWith known needs adds deletes starts goals counts steps .task) ⌝ }
+    ensures { λ r. ⌜ r ≡ acceptedRead (taskRead known needs adds deletes locks runs) ⌝ }
 {
     let table = Table {
         facts: known.facts,
@@ -89,13 +108,7 @@ fn read_as(
         needs,
         adds,
         deletes,
-    };
-    let runs = Runs {
-        many: known.runs,
-        starts,
-        goals,
-        counts,
-        steps,
+        locks,
     };
     TaskReply {
         number: refusals::ACCEPTED,
@@ -112,12 +125,13 @@ pub fn read(s: &[u8]) -> TaskReply
     let mut needs = [0; ACTIONS];
     let mut adds = [0; ACTIONS];
     let mut deletes = [0; ACTIONS];
+    let mut locks = [0; ACTIONS];
     let mut starts = [0; RUNS];
     let mut goals = [0; RUNS];
     let mut counts = [0; RUNS];
     let mut steps = [0; ALL_STEPS];
     loop {
-        let fault = fault_at(s, at, known);
+        let fault = fault_at(s, at, known, &needs);
         if fault.number != refusals::ACCEPTED {
             return refused(fault.number, fault.place);
         }
@@ -127,14 +141,16 @@ pub fn read(s: &[u8]) -> TaskReply
             if start < s.len() {
                 return refused(refusals::BYTES_AFTER_END, start);
             }
-            return read_as(known, needs, adds, deletes, starts, goals, counts, steps);
+            let runs = runs_read(known.runs, starts, goals, counts, steps);
+            return read_as(known, needs, adds, deletes, locks, runs);
         }
-        let x = parts::byte_at(s, at, 0);
+        let byte = parts::byte_at(s, at, 0);
+        let x = byte as usize;
         let y = parts::number_at(s, at, 1);
         let run = last_run(known.runs);
-        put_cell(&mut needs, &mut adds, &mut deletes, kind, x as usize, y);
-        put_set(&mut starts, &mut goals, kind, run, x as usize);
-        put_step(&mut counts, &mut steps, kind, run, known.count, x);
+        put_cell(&mut needs, &mut adds, &mut deletes, &mut locks, kind, x, y);
+        put_set(&mut starts, &mut goals, kind, run, x);
+        put_step(&mut counts, &mut steps, kind, run, known.count, byte);
         known = after(s, at, known, &counts);
         at = start + kinds::body_length(kind);
     }

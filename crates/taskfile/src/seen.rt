@@ -8,10 +8,9 @@ ghost use mathlib.Core.Bool.{false, _&&_};
 ghost use mathlib.Core.Path.{_≡_};
 ghost use lib.Dec.{eqb, leb};
 ghost use lib.ListN.{getD};
-ghost use Rattle.table.specs.Refusals.{accepted};
 ghost use Rattle.table.specs.Sizes.{maxRuns};
 ghost use Rattle.taskformat.specs.Format.{runKind};
-ghost use Rattle.taskformat.specs.Reading.{noTask, nothingSeen, seenAfter, faultAt};
+ghost use Rattle.taskformat.specs.Reading.{noTask, nothingSeen, kindAt, seenAfter};
 ghost use Rattle.records.specs.Records.{seenOf};
 ghost use Rattle.taskfile.specs.Numbers.{knownOf, manyAfter};
 
@@ -49,7 +48,7 @@ fn count_of(counts: &[usize], run: usize) -> usize
 
 // What is known after the good record at a place, whose own step has been counted.
 pub(crate) fn after(s: &[u8], at: usize, known: Known, counts: &[usize]) -> Known
-    requires { ⌜ faultAt (now s) at (seenOf known) .number ≡ accepted ⌝ }
+    requires { ⌜ (eqb (kindAt (now s) at) runKind && leb maxRuns (known .runs)) ≡ false ⌝ }
     ensures { λ r. ⌜ r ≡ knownOf (seenAfter (now (s .entry)) at (seenOf known)) (now (counts .entry)) ⌝ }
 {
     let kind = parts::kind_at(s, at);

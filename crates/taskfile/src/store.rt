@@ -1,4 +1,4 @@
-// What one good record stores in the arrays (document 01, "The task file"; 02, request 1): each in its own place, and every other
+// What one good record stores in the arrays (document 01, "The task file"; 02, requests 1 and 6): each in its own place, and every other
 // place is left alone.
 use records::kinds;
 use table::RUNS;
@@ -10,7 +10,7 @@ ghost use lib.Dec.{eqb, leb};
 ghost use lib.ListN.{length, set};
 ghost use Rattle.table.specs.Setting.{setIn};
 ghost use Rattle.table.specs.Sizes.{maxRuns, maxSteps, allSteps};
-ghost use Rattle.taskformat.specs.Format.{needKind, addKind, deleteKind, startKind, goalKind, stepKind};
+ghost use Rattle.taskformat.specs.Format.{needKind, addKind, deleteKind, lockKind, startKind, goalKind, stepKind};
 
 // Where the record is of these sets, one fact more in the set at a place; past the sets nothing changes.
 fn put_fact(sets: &mut [u64], here: bool, place: usize, fact: usize)
@@ -25,11 +25,12 @@ fn put_fact(sets: &mut [u64], here: bool, place: usize, fact: usize)
     sets[place] = facts::with_fact(sets[place], fact);
 }
 
-// A need, an add or a delete: a fact of an action.
+// A need, an add, a delete or a lock: a fact of an action.
 pub(crate) fn put_cell(
     needs: &mut [u64],
     adds: &mut [u64],
     deletes: &mut [u64],
+    locks: &mut [u64],
     kind: usize,
     action: usize,
     fact: usize,
@@ -37,10 +38,12 @@ pub(crate) fn put_cell(
     ensures { λ _. ⌜ now (needs .exit) ≡ cond (eqb kind needKind) (setIn (now (needs .entry)) action fact true) (now (needs .entry)) ⌝ }
     ensures { λ _. ⌜ now (adds .exit) ≡ cond (eqb kind addKind) (setIn (now (adds .entry)) action fact true) (now (adds .entry)) ⌝ }
     ensures { λ _. ⌜ now (deletes .exit) ≡ cond (eqb kind deleteKind) (setIn (now (deletes .entry)) action fact true) (now (deletes .entry)) ⌝ }
+    ensures { λ _. ⌜ now (locks .exit) ≡ cond (eqb kind lockKind) (setIn (now (locks .entry)) action fact true) (now (locks .entry)) ⌝ }
 {
     put_fact(needs, kind == kinds::NEED, action, fact);
     put_fact(adds, kind == kinds::ADD, action, fact);
     put_fact(deletes, kind == kinds::DELETE, action, fact);
+    put_fact(locks, kind == kinds::LOCK, action, fact);
 }
 
 // A start or a goal fact of a run.

@@ -4,8 +4,6 @@ use Prim.Native.Nat.{ℕ, _-_}
 use borrow.Author.Needs.{needs}
 use denote.Ref.{now}
 use lib.ListN.{getD}
-use Rattle.records.specs.Records.{seenOf}
-use Rattle.taskformat.proofs.Clear.{clear}
 use Rattle.taskfile.proofs.ReaderLaws.{after-sizes, after-other}
 use Rattle.taskfile.proofs.seen.after.Statement.{statement}
 use Rattle.taskfile.proofs.seen.after.Tie as tie
@@ -25,9 +23,7 @@ body-number-requires c κs = search needs
 
 runs-after-requires : tie.Need-runs-after-requires
 runs-after-requires c κs =
-    let k = c .before in
-    let i = entry k .args in
-    rw (k .kind-at .ensures) (clear (now (i .s)) (i .at) (seenOf (i .known)) (entry k .pre) .runs)
+    let k = c .before in rw (k .kind-at .ensures) (entry k .pre)
 
 last-run-requires : tie.Need-last-run-requires
 last-run-requires c κs = search needs
