@@ -32,7 +32,7 @@ module _ (ws : List ℕ) (number : ℕ) (t : Task) where
       (placed-whole p (omega arith) ∙
       ap (λ l. taskOut t ++ l) (drop-of-length-le ws {i = length (tableOut (t .table) ++ runsOut (t .runs))} (omega arith)) ∙ append-nil (taskOut t))
 
--- Only 636 words are a well-formed task.
+-- Only 668 words are a well-formed task.
 pub formed-length : (ws : List ℕ) → formed (taskIn ws) ≡ true → length ws ≡ taskWords
 formed-length ws h = pick (eqb (length ws) taskWords) refl
   where

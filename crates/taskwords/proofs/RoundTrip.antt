@@ -2,7 +2,7 @@
 use mathlib.Core.Bool.{Bool, true, false}
 use mathlib.Core.List.{List, [], _∷_, _++_, map, append-assoc}
 use mathlib.Core.Path.{_≡_, refl, _∙_, ap, sym}
-use Prim.Native.Nat.{ℕ, _+_, _*_, _≤_, _<_}
+use Prim.Native.Nat.{ℕ, _+_, _≤_, _<_}
 use native.Mathlib.Numerals.{add-one}
 use native.Mathlib.Omega.{arith}
 use borrow.Author.Tests.{eq-eqb, ne-eqb, ltb-false}
@@ -12,7 +12,7 @@ use lib.Seq.{ext-getD, take-at, drop-at, getD-at, drop-drop, drop-cons, take-all
 use Rattle.table.specs.Sizes.{maxActions, maxRuns, allSteps}
 use Rattle.table.specs.Tasks.{Shaped, formed, sizesFormed}
 use Rattle.table.specs.declared.Task.{Task}
-use Rattle.taskwords.specs.Words.{stepIn, lastStep, taskWords, tableWords, startsAt, goalsAt, countsAt, stepsAt, masksAt, ofRunsAt, unpacked, taskIn, tableOut, runsOut, taskOut}
+use Rattle.taskwords.specs.Words.{stepIn, lastStep, taskWords, tableWords, needsAt, addsAt, deletesAt, locksAt, startsAt, goalsAt, countsAt, stepsAt, masksAt, ofRunsAt, unpacked, taskIn, tableOut, runsOut, taskOut}
 use Rattle.taskwords.proofs.WordLaws.{task-length}
 
 -- A step that fits a byte is itself.
@@ -34,16 +34,17 @@ steps-same l narrow =
 abbrev runs-flat : Task → List ℕ
 runs-flat t = t .runs .many ∷ (t .runs .starts ++ (t .runs .goals ++ (t .runs .counts ++ t .runs .steps)))
 
-side-by-side : (a b c d e : List ℕ) → a ++ b ++ c ++ d ++ e ≡ a ++ (b ++ (c ++ (d ++ e)))
-side-by-side a b c d e = simp append-assoc
+side-by-side : (h n a d l m s g k e : List ℕ)
+    → h ++ n ++ a ++ d ++ l ++ (m ++ s ++ g ++ k ++ e) ≡ h ++ (n ++ (a ++ (d ++ (l ++ (m ++ (s ++ (g ++ (k ++ e))))))))
+side-by-side h n a d l m s g k e = simp append-assoc
 
 flat : (t : Task) → taskOut t ≡
     (t .table .facts ∷ t .table .actions ∷ t .table .limit ∷ []) ++
-    (t .table .needs ++ (t .table .adds ++ (t .table .deletes ++ runs-flat t)))
+    (t .table .needs ++ (t .table .adds ++ (t .table .deletes ++ (t .table .locks ++ runs-flat t))))
 unfolding taskOut tableOut runsOut
 flat t =
-    ap (λ l. tableOut (t .table) ++ l) (side-by-side (t .runs .many ∷ []) (t .runs .starts) (t .runs .goals) (t .runs .counts) (t .runs .steps)) ∙
-    side-by-side (t .table .facts ∷ t .table .actions ∷ t .table .limit ∷ []) (t .table .needs) (t .table .adds) (t .table .deletes) (runs-flat t)
+    side-by-side (t .table .facts ∷ t .table .actions ∷ t .table .limit ∷ []) (t .table .needs) (t .table .adds) (t .table .deletes)
+    (t .table .locks) (t .runs .many ∷ []) (t .runs .starts) (t .runs .goals) (t .runs .counts) (t .runs .steps)
 
 -- A part that stands in the middle of the words is found at its place.
 regroup : {ws : List ℕ} (p b c : List ℕ) → ws ≡ p ++ (b ++ c) → ws ≡ (p ++ b) ++ c
@@ -60,15 +61,18 @@ module _ (t : Task) (s : Shaped t) where
   abbrev head : List ℕ
   head = t .table .facts ∷ t .table .actions ∷ t .table .limit ∷ []
 
-  -- What stands before the adds, the deletes, the runs, and the starts, the goals, the counts and the steps of these.
+  -- What stands before the adds, the deletes, the locks, the runs, and the starts, the goals, the counts and the steps of these.
   abbrev to-adds : List ℕ
   to-adds = head ++ t .table .needs
 
   abbrev to-deletes : List ℕ
   to-deletes = to-adds ++ t .table .adds
 
+  abbrev to-locks : List ℕ
+  to-locks = to-deletes ++ t .table .deletes
+
   abbrev to-runs : List ℕ
-  to-runs = to-deletes ++ t .table .deletes
+  to-runs = to-locks ++ t .table .locks
 
   abbrev to-starts : List ℕ
   to-starts = to-runs ++ (t .runs .many ∷ [])
@@ -82,14 +86,17 @@ module _ (t : Task) (s : Shaped t) where
   abbrev to-steps : List ℕ
   to-steps = to-counts ++ t .runs .counts
 
-  before-adds : length to-adds ≡ 3 + maxActions
+  before-adds : length to-adds ≡ addsAt
   before-adds = omega (arith, length-append head (t .table .needs), s .needs)
 
-  before-deletes : length to-deletes ≡ 3 + 2 * maxActions
+  before-deletes : length to-deletes ≡ deletesAt
   before-deletes = omega (arith, length-append to-adds (t .table .adds), s .adds, before-adds)
 
+  before-locks : length to-locks ≡ locksAt
+  before-locks = omega (arith, length-append to-deletes (t .table .deletes), s .deletes, before-deletes)
+
   before-runs : length to-runs ≡ tableWords
-  before-runs = omega (arith, length-append to-deletes (t .table .deletes), s .deletes, before-deletes)
+  before-runs = omega (arith, length-append to-locks (t .table .locks), s .locks, before-locks)
 
   before-starts : length to-starts ≡ startsAt
   before-starts = omega (arith, length-append to-runs (t .runs .many ∷ []), before-runs)
@@ -103,14 +110,17 @@ module _ (t : Task) (s : Shaped t) where
   before-steps : length to-steps ≡ stepsAt
   before-steps = omega (arith, length-append to-counts (t .runs .counts), s .counts, before-counts)
 
-  at-adds : taskOut t ≡ to-adds ++ (t .table .adds ++ (t .table .deletes ++ runs-flat t))
-  at-adds = regroup head (t .table .needs) (t .table .adds ++ (t .table .deletes ++ runs-flat t)) (flat t)
+  at-adds : taskOut t ≡ to-adds ++ (t .table .adds ++ (t .table .deletes ++ (t .table .locks ++ runs-flat t)))
+  at-adds = regroup head (t .table .needs) (t .table .adds ++ (t .table .deletes ++ (t .table .locks ++ runs-flat t))) (flat t)
 
-  at-deletes : taskOut t ≡ to-deletes ++ (t .table .deletes ++ runs-flat t)
-  at-deletes = regroup to-adds (t .table .adds) (t .table .deletes ++ runs-flat t) at-adds
+  at-deletes : taskOut t ≡ to-deletes ++ (t .table .deletes ++ (t .table .locks ++ runs-flat t))
+  at-deletes = regroup to-adds (t .table .adds) (t .table .deletes ++ (t .table .locks ++ runs-flat t)) at-adds
+
+  at-locks : taskOut t ≡ to-locks ++ (t .table .locks ++ runs-flat t)
+  at-locks = regroup to-deletes (t .table .deletes) (t .table .locks ++ runs-flat t) at-deletes
 
   at-runs : taskOut t ≡ to-runs ++ runs-flat t
-  at-runs = regroup to-deletes (t .table .deletes) (runs-flat t) at-deletes
+  at-runs = regroup to-locks (t .table .locks) (runs-flat t) at-locks
 
   at-starts : taskOut t ≡ to-starts ++ (t .runs .starts ++ (t .runs .goals ++ (t .runs .counts ++ t .runs .steps)))
   at-starts = regroup to-runs (t .runs .many ∷ []) (t .runs .starts ++ (t .runs .goals ++ (t .runs .counts ++ t .runs .steps))) at-runs
@@ -138,9 +148,10 @@ module _ (t : Task) (s : Shaped t) where
         word-of [] (t .table .facts) _ 0 (flat t) refl,
         word-of (t .table .facts ∷ []) (t .table .actions) _ 1 (flat t) refl,
         word-of (t .table .facts ∷ t .table .actions ∷ []) (t .table .limit) _ 2 (flat t) refl,
-        part-of head (t .table .needs) _ 3 maxActions (flat t) refl (s .needs),
-        part-of to-adds (t .table .adds) _ (3 + maxActions) maxActions at-adds before-adds (s .adds),
-        part-of to-deletes (t .table .deletes) _ (3 + 2 * maxActions) maxActions at-deletes before-deletes (s .deletes),
+        part-of head (t .table .needs) _ needsAt maxActions (flat t) refl (s .needs),
+        part-of to-adds (t .table .adds) _ addsAt maxActions at-adds before-adds (s .adds),
+        part-of to-deletes (t .table .deletes) _ deletesAt maxActions at-deletes before-deletes (s .deletes),
+        part-of to-locks (t .table .locks) _ locksAt maxActions at-locks before-locks (s .locks),
         word-of to-runs (t .runs .many) _ tableWords at-runs before-runs,
         part-of to-starts (t .runs .starts) _ startsAt maxRuns at-starts before-starts (s .starts),
         part-of to-goals (t .runs .goals) _ goalsAt maxRuns at-goals before-goals (s .goals),
@@ -156,12 +167,12 @@ word-off ws at h = rw add-one (sym (drop-cons ws at 0 h))
 part-off : (ws : List ℕ) (at n : ℕ) → take n (drop at ws) ++ drop (at + n) ws ≡ drop at ws
 part-off ws at n = ap (λ l. take n (drop at ws) ++ l) (sym (drop-drop n at ws)) ∙ take-append-drop n (drop at ws)
 
--- Another number of words than 636 is no well-formed task.
+-- Another number of words than 668 is no well-formed task.
 pub other-length : (ws : List ℕ) → (length ws ≡ taskWords → ⊥) → formed (taskIn ws) ≡ false
 unfolding taskIn formed sizesFormed
 other-length ws h = rw (ne-eqb (length ws) taskWords h)
 
--- Unpacking and packing: of 636 words whose steps fit a byte.
+-- Unpacking and packing: of 668 words whose steps fit a byte.
 module _ (ws : List ℕ) (h : length ws ≡ taskWords) where
   runs-off : ((i : ℕ) → getD (take allSteps (drop stepsAt ws)) i 0 ≤ lastStep) → runs-flat (unpacked ws) ≡ drop tableWords ws
   runs-off narrow =
@@ -181,10 +192,12 @@ module _ (ws : List ℕ) (h : length ws ≡ taskWords) where
       rw (eq-eqb (length ws) taskWords h)
       (flat (unpacked ws) ∙
       ap (λ l. (getD ws 0 0 ∷ getD ws 1 0 ∷ getD ws 2 0 ∷ []) ++ l)
-      (ap (λ l. masksAt ws 3 ++ l)
-      (ap (λ l. masksAt ws (3 + maxActions) ++ l)
-      (ap (λ l. masksAt ws (3 + 2 * maxActions) ++ l) (runs-off narrow) ∙ part-off ws (3 + 2 * maxActions) maxActions) ∙
-      part-off ws (3 + maxActions) maxActions) ∙
-      part-off ws 3 maxActions) ∙
+      (ap (λ l. masksAt ws needsAt ++ l)
+      (ap (λ l. masksAt ws addsAt ++ l)
+      (ap (λ l. masksAt ws deletesAt ++ l)
+      (ap (λ l. masksAt ws locksAt ++ l) (runs-off narrow) ∙ part-off ws locksAt maxActions) ∙
+      part-off ws deletesAt maxActions) ∙
+      part-off ws addsAt maxActions) ∙
+      part-off ws needsAt maxActions) ∙
       ap (λ l. getD ws 0 0 ∷ getD ws 1 0 ∷ l) (word-off ws 2 (omega arith)) ∙ ap (λ l. getD ws 0 0 ∷ l) (word-off ws 1 (omega arith)) ∙
       word-off ws 0 (omega arith))

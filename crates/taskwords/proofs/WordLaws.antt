@@ -11,9 +11,9 @@ use Rattle.taskwords.specs.Words.{tableWords, runsWords, taskWords, tabl
 use Rattle.taskwords.specs.Answers.{answerMost, taskAnswer}
 
 pub table-length : (t : Table) → length (t .needs) ≡ maxActions → length (t .adds) ≡ maxActions → length (t .deletes) ≡ maxActions
-    → length (tableOut t) ≡ tableWords
+    → length (t .locks) ≡ maxActions → length (tableOut t) ≡ tableWords
 unfolding tableOut
-table-length t n a d = simp length-append (omega arith)
+table-length t n a d l = simp length-append (omega arith)
 
 pub runs-length : (t : Task) → Shaped t → length (runsOut (t .runs)) ≡ runsWords
 unfolding runsOut
@@ -22,8 +22,8 @@ runs-length t s = simp length-append (omega (arith, s .starts, s .goals, s .coun
 pub task-length : (t : Task) → Shaped t → length (taskOut t) ≡ taskWords
 unfolding taskOut
 task-length t s =
-    simp length-append (omega (arith, table-length (t .table) (s .needs) (s .adds) (s .deletes), runs-length t s))
+    simp length-append (omega (arith, table-length (t .table) (s .needs) (s .adds) (s .deletes) (s .locks), runs-length t s))
 
 pub answer-length : (number place : ℕ) (t : Task) → Shaped t → length (taskAnswer number place t) ≡ answerMost
 answer-length number place t s =
-    simp length-append (omega (arith, table-length (t .table) (s .needs) (s .adds) (s .deletes), runs-length t s))
+    simp length-append (omega (arith, table-length (t .table) (s .needs) (s .adds) (s .deletes) (s .locks), runs-length t s))

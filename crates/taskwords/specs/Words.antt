@@ -1,5 +1,5 @@
--- A task as 636 words of 64 bits: facts, actions, limit, needs, adds, deletes, how many runs, starts, goals, counts, steps
--- (docs/BOUNDARY.md).
+-- A task as 668 words of 64 bits: facts, actions, limit, needs, adds, deletes, locks (02, request 6), how many runs, starts, goals,
+-- counts, steps (docs/BOUNDARY.md).
 use mathlib.Core.Bool.{cond}
 use mathlib.Core.List.{List, [], _∷_, _++_, map}
 use mathlib.Core.Path.{_≡_}
@@ -13,9 +13,22 @@ use Rattle.table.specs.declared.Table.{Table}
 use Rattle.table.specs.declared.Task.{Task}
 use Rattle.taskformat.specs.Reading.{noTask}
 
+-- Where the masks of the actions stand, behind facts, actions and limit.
+abbrev pub needsAt : ℕ
+needsAt = 3
+
+abbrev pub addsAt : ℕ
+addsAt = needsAt + maxActions
+
+abbrev pub deletesAt : ℕ
+deletesAt = addsAt + maxActions
+
+abbrev pub locksAt : ℕ
+locksAt = deletesAt + maxActions
+
 -- How many words the table, the runs and the task have.
 abbrev pub tableWords : ℕ
-tableWords = 3 + 3 * maxActions
+tableWords = locksAt + maxActions
 
 abbrev pub runsWords : ℕ
 runsWords = 1 + 3 * maxRuns + allSteps
@@ -39,9 +52,10 @@ unpackedTable ws = record {
   facts = getD ws 0 0;
   actions = getD ws 1 0;
   limit = getD ws 2 0;
-  needs = masksAt ws 3;
-  adds = masksAt ws (3 + maxActions);
-  deletes = masksAt ws (3 + 2 * maxActions);
+  needs = masksAt ws needsAt;
+  adds = masksAt ws addsAt;
+  deletes = masksAt ws deletesAt;
+  locks = masksAt ws locksAt;
 }
 
 -- The words of all runs, one for each, that stand from a place on.
@@ -77,13 +91,13 @@ unpackedRuns ws = record {
 abbrev pub unpacked : List ℕ → Task
 unpacked ws = record { table = unpackedTable ws; runs = unpackedRuns ws }
 
--- The task of any words; of another number of them than 636, the task of zeros, which is not well formed.
+-- The task of any words; of another number of them than 668, the task of zeros, which is not well formed.
 unfoldable pub taskIn : List ℕ → Task
 taskIn ws = cond {A = Task} (eqb (length ws) taskWords) (unpacked ws) noTask
 
 -- The words of a task.
 unfoldable pub tableOut : Table → List ℕ
-tableOut t = (t .facts ∷ t .actions ∷ t .limit ∷ []) ++ t .needs ++ t .adds ++ t .deletes
+tableOut t = (t .facts ∷ t .actions ∷ t .limit ∷ []) ++ t .needs ++ t .adds ++ t .deletes ++ t .locks
 
 unfoldable pub runsOut : Runs → List ℕ
 runsOut r = (r .many ∷ []) ++ r .starts ++ r .goals ++ r .counts ++ r .steps

@@ -106,10 +106,12 @@ fn put_table(answer: &mut [u64], at: usize, t: Table) -> usize
     let needs = t.needs;
     let adds = t.adds;
     let deletes = t.deletes;
+    let locks = t.locks;
     let next = put_three(answer, at, t.facts as u64, t.actions as u64, t.limit as u64);
     let next = put_masks(answer, next, &needs);
     let next = put_masks(answer, next, &adds);
-    put_masks(answer, next, &deletes)
+    let next = put_masks(answer, next, &deletes);
+    put_masks(answer, next, &locks)
 }
 
 fn put_runs(answer: &mut [u64], at: usize, runs: Runs) -> usize

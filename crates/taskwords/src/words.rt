@@ -1,4 +1,4 @@
-// A task from the 636 words that a caller lends. Any words are a task, well formed or not; a slice of another length
+// A task from the 668 words that a caller lends. Any words are a task, well formed or not; a slice of another length
 // counts as the task of zeros, which no call finds well formed.
 use table::ACTIONS;
 use table::ALL_STEPS;
@@ -27,7 +27,10 @@ pub const ADDS_AT: usize = NEEDS_AT + ACTIONS;
 
 pub const DELETES_AT: usize = ADDS_AT + ACTIONS;
 
-pub const MANY_AT: usize = DELETES_AT + ACTIONS;
+// 02, request 6
+pub const LOCKS_AT: usize = DELETES_AT + ACTIONS;
+
+pub const MANY_AT: usize = LOCKS_AT + ACTIONS;
 
 pub const STARTS_AT: usize = MANY_AT + 1;
 
@@ -143,6 +146,7 @@ pub fn task_in(words: &[u64]) -> Task
     copy_action_masks(words, NEEDS_AT, &mut t.table.needs);
     copy_action_masks(words, ADDS_AT, &mut t.table.adds);
     copy_action_masks(words, DELETES_AT, &mut t.table.deletes);
+    copy_action_masks(words, LOCKS_AT, &mut t.table.locks);
     copy_run_masks(words, STARTS_AT, &mut t.runs.starts);
     copy_run_masks(words, GOALS_AT, &mut t.runs.goals);
     copy_counts(words, &mut t.runs.counts);

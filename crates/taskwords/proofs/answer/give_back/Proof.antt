@@ -18,7 +18,7 @@ shaped c = search needs
 whole : (c : tie.Start) → length (tableOut (c .args .changed .table)) ≡ tableWords
 whole c =
     let s = shaped c in
-    table-length (c .args .changed .table) (s .needs) (s .adds) (s .deletes)
+    table-length (c .args .changed .table) (s .needs) (s .adds) (s .deletes) (s .locks)
 
 returns : tie.Need-returns
 returns c = sym (lent-back-kept _ _ _ (c .if1 .taken))

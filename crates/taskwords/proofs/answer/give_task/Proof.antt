@@ -22,7 +22,7 @@ shaped c = search needs
 whole : (c : tie.Start) → length (tableOut (c .args .task .table)) ≡ tableWords
 whole c =
     let s = shaped c in
-    table-length (c .args .task .table) (s .needs) (s .adds) (s .deletes)
+    table-length (c .args .task .table) (s .needs) (s .adds) (s .deletes) (s .locks)
 
 put-two-requires : tie.Need-put-two-requires
 put-two-requires c κs = search needs

@@ -1,4 +1,4 @@
--- `task_in`: the task of 636 words, each part from its place, and of another number of them the task of zeros.
+-- `task_in`: the task of 668 words, each part from its place, and of another number of them the task of zeros.
 use mathlib.Core.List.{List}
 use mathlib.Core.Path.{_≡_, ap}
 use Prim.Native.Nat.{ℕ}
@@ -41,6 +41,9 @@ copy-action-masks-requires-2 c κs = search needs
 copy-action-masks-requires-3 : tie.Need-copy-action-masks-requires-3
 copy-action-masks-requires-3 c κs = search needs
 
+copy-action-masks-requires-4 : tie.Need-copy-action-masks-requires-4
+copy-action-masks-requires-4 c κs = search needs
+
 copy-run-masks-requires : tie.Need-copy-run-masks-requires
 copy-run-masks-requires c κs = search needs
 
@@ -48,12 +51,12 @@ copy-run-masks-requires-2 : tie.Need-copy-run-masks-requires-2
 copy-run-masks-requires-2 c κs = search needs
 
 -- behind the masks of the actions; and where the task is still all zeros, before its four numbers are set
-abbrev acted : tie.After-copy-run-masks2 → tie.After-copy-action-masks3
+abbrev acted : tie.After-copy-run-masks2 → tie.After-copy-action-masks4
 acted c = c .before .before .before .before
 
-abbrev begun : tie.After-copy-action-masks3 → tie.After-no-task2
+abbrev begun : tie.After-copy-action-masks4 → tie.After-no-task2
 begun c =
-    let numbers = c .before .before .before .before .before .before in
+    let numbers = c .before .before .before .before .before .before .before .before in
     numbers .before .before .before .before .before .before .before .before
 
 copy-counts-requires : tie.Need-copy-counts-requires
@@ -71,34 +74,37 @@ copy-steps-requires c κs =
     (search needs, (c .before .used-steps .ensures, ap (λ (t : Task). t .runs .steps) (zeros .no-task2 .ensures)))
 
 -- each part as it stands among the words: together they are the task
-made : (ws : List ℕ) → length ws ≡ taskWords → {n a d s g k e : List ℕ}
+made : (ws : List ℕ) → length ws ≡ taskWords → {n a d l s g k e : List ℕ}
     → n ≡ unpacked ws .table .needs
     → a ≡ unpacked ws .table .adds
     → d ≡ unpacked ws .table .deletes
+    → l ≡ unpacked ws .table .locks
     → s ≡ unpacked ws .runs .starts
     → g ≡ unpacked ws .runs .goals
     → k ≡ unpacked ws .runs .counts
     → e ≡ unpacked ws .runs .steps
     → _≡_ {A = Task}
     (record {
-      table = record { facts = getD ws 0 0; actions = getD ws 1 0; limit = getD ws 2 0; needs = n; adds = a; deletes = d };
+      table = record { facts = getD ws 0 0; actions = getD ws 1 0; limit = getD ws 2 0; needs = n; adds = a; deletes = d; locks = l };
       runs = record { many = getD ws tableWords 0; starts = s; goals = g; counts = k; steps = e };
     })
     (taskIn ws)
 unfolding taskIn
-made ws h en ea ed es eg ek ee = rw (eq-eqb (length ws) taskWords h, en, ea, ed, es, eg, ek, ee)
+made ws h en ea ed el es eg ek ee = rw (eq-eqb (length ws) taskWords h, en, ea, ed, el, es, eg, ek, ee)
 
 returns-2 : tie.Need-returns-2
 returns-2 c =
     let counts = c .before .before .before in
     let goals = counts .before .before in
-    let deletes = acted goals in
+    let locks = acted goals in
+    let deletes = locks .before .before in
     let adds = deletes .before .before in
-    let tested = begun deletes .before in
+    let tested = begun locks .before in
     made (tested .before .before .args .words .now) (tested .if1 .left)
     (adds .before .before .copy-action-masks .ensures)
     (adds .copy-action-masks2 .ensures)
     (deletes .copy-action-masks3 .ensures)
+    (locks .copy-action-masks4 .ensures)
     (goals .before .before .copy-run-masks .ensures)
     (goals .copy-run-masks2 .ensures)
     (counts .copy-counts .ensures)
@@ -118,6 +124,7 @@ task-in-spec =
     copy-action-masks-requires
     copy-action-masks-requires-2
     copy-action-masks-requires-3
+    copy-action-masks-requires-4
     copy-run-masks-requires
     copy-run-masks-requires-2
     copy-counts-requires
