@@ -34,8 +34,8 @@ abbrev NoneFor : Task → Type 0
 NoneFor t = (l : List ℕ) → WorksFor t l → ⊥
 
 module _ (t : Task) (w : WellFormed t) where
-  -- What run i asks for before any step has run: its goals if it has none, and else the locked needs of the first. One of that is absent at
-  -- the start.
+  -- Does run i ask for the fact before any step has run (as a goal if it has no step, and else as a locked need of the first), and is it
+  -- absent then?
   asked : ℕ → ℕ → Bool
   asked i f = cond (eqb (countOf (t .runs) i) 0) (has (goalOf (t .runs) i) f) (cellsOf (t .table) .locks (stepOf (t .runs) i 0) f)
 
@@ -67,7 +67,7 @@ module _ (t : Task) (w : WellFormed t) where
 
   -- ---- the theorem, both ways
 
-  pub none-stuck : NoneFor t → Stuck t
+  none-stuck : NoneFor t → Stuck t
   unfolding cellsOf stuckIn missing asked
   none-stuck none = pick (someBelow stuckIn (t .runs .many)) refl
     where
@@ -92,7 +92,7 @@ module _ (t : Task) (w : WellFormed t) where
           (able-works (cellsOf (t .table)) (w .facts-high) (w .actions-high) (coursesOf t) (formed-inside t w) able))
 
   -- Before any step the state is the start, whatever is repaired, and no list drops a locked need.
-  pub stuck-none : Stuck t → NoneFor t
+  stuck-none : Stuck t → NoneFor t
   unfolding courseOf
   stuck-none (without-steps i f there none goal absent) l works =
       let c = repaired (cellsOf (t .table)) (isIn l) in
@@ -102,7 +102,7 @@ module _ (t : Task) (w : WellFormed t) where
       let c = repaired (cellsOf (t .table)) (isIn l) in
       let r = courseOf (t .runs) i in
       let a = stepOf (t .runs) i 0 in
-      let need = locked-stands (cellsOf (t .table)) l (works .permitted) a f locked (w .locks-needs a f locked) in
+      let need = locked-stands (cellsOf (t .table)) l (works .permitted .each) a f locked (w .locks-needs a f locked) in
       true≢false (sym (works .valid i there .may-run 0 some f need) ∙ stateAt-first c r f ∙ absent)
 
   -- The fullest list works if any does.
