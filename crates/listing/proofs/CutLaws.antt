@@ -1,4 +1,4 @@
--- The first 24,000 bytes of any input decide its listing: "later bytes can't alter its answer" (document 01, "The listing").
+-- The first 28,000 bytes of any input decide its listing: "later bytes can't alter its answer" (document 01, "The listing").
 -- Assumes nothing.
 use mathlib.Core.List.{List}
 use mathlib.Core.Logic.{_↔_}

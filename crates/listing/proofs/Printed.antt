@@ -17,7 +17,7 @@ use Rattle.text.specs.Text.{digits, each, line, checkIn, readText, textOf}
 -- Four facts, three actions, limit three, three steps (the masks are not shown); three open needs, the first at step 3, fact 1.
 abbrev pub sized : Task
 sized = record {
-  table = record { facts = 4; actions = 3; limit = 3; needs = []; adds = []; deletes = [] };
+  table = record { facts = 4; actions = 3; limit = 3; needs = []; adds = []; deletes = []; locks = [] };
   runs = record { many = 1; starts = []; goals = []; counts = 3 ∷ []; steps = [] };
 }
 
@@ -43,7 +43,7 @@ refused-file = refl
 -- too; and the steps of all.
 abbrev pub threeRuns : Task
 threeRuns = record {
-  table = record { facts = 4; actions = 3; limit = 3; needs = []; adds = []; deletes = [] };
+  table = record { facts = 4; actions = 3; limit = 3; needs = []; adds = []; deletes = []; locks = [] };
   runs = record { many = 3; starts = []; goals = []; counts = 3 ∷ 0 ∷ 11 ∷ []; steps = [] };
 }
 

@@ -6,7 +6,7 @@ use native.Mathlib.Omega.{arith}
 use lib.ListN.{length, length-append}
 use Rattle.table.specs.Tasks.{startOf, goalOf, countOf, WellFormed}
 use Rattle.table.specs.declared.Task.{Task}
-use Rattle.taskformat.specs.Format.{needKind, addKind, deleteKind, endKind, cellRecords, stepRecords, setRecords, furtherRun, fileOf}
+use Rattle.taskformat.specs.Format.{needKind, addKind, deleteKind, lockKind, endKind, cellRecords, stepRecords, setRecords, furtherRun, fileOf}
 use Rattle.taskformat.specs.Lengths.{longestFile}
 use Rattle.taskformat.proofs.FileLength.{file-length}
 use Rattle.taskwriter.specs.Pieces.{bothSets, stepsFrom, runWith, throughGoals, throughCells, furtherRuns}
@@ -37,7 +37,8 @@ module _ (t : Task) (w : WellFormed t) where
   pub cells-fit : length (throughGoals t) +
       length (cellRecords needKind (t .table .facts) (t .table .actions) (t .table .needs)) +
       length (cellRecords addKind (t .table .facts) (t .table .actions) (t .table .adds)) +
-      length (cellRecords deleteKind (t .table .facts) (t .table .actions) (t .table .deletes)) ≤ longestFile
+      length (cellRecords deleteKind (t .table .facts) (t .table .actions) (t .table .deletes)) +
+      length (cellRecords lockKind (t .table .facts) (t .table .actions) (t .table .locks)) ≤ longestFile
   unfolding throughCells
   cells-fit = omega (arith, simp length-append at runs-fit)
 

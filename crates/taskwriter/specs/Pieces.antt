@@ -6,7 +6,7 @@ use Rattle.facts.specs.Sets.{has}
 use Rattle.table.specs.Lists.{gather, piece}
 use Rattle.table.specs.Sizes.{maxSteps}
 use Rattle.table.specs.declared.Task.{Task}
-use Rattle.taskformat.specs.Format.{sizesKind, startKind, goalKind, needKind, addKind, deleteKind, stepKind, runKind, factRecords, cellRecords, setRecords, furtherRun}
+use Rattle.taskformat.specs.Format.{sizesKind, startKind, goalKind, needKind, addKind, deleteKind, lockKind, stepKind, runKind, factRecords, cellRecords, setRecords, furtherRun}
 
 abbrev pub factRecord : ℕ → ℕ → ℕ → List ℕ
 factRecord kind set f = piece (has set f) (kind ∷ f ∷ [])
@@ -42,7 +42,8 @@ unfoldable pub throughCells : Task → List ℕ
 throughCells t =
     throughGoals t ++ cellRecords needKind (t .table .facts) (t .table .actions) (t .table .needs) ++
     cellRecords addKind (t .table .facts) (t .table .actions) (t .table .adds) ++
-    cellRecords deleteKind (t .table .facts) (t .table .actions) (t .table .deletes)
+    cellRecords deleteKind (t .table .facts) (t .table .actions) (t .table .deletes) ++
+    cellRecords lockKind (t .table .facts) (t .table .actions) (t .table .locks)
 
 abbrev pub furtherRuns : Task → List ℕ
 furtherRuns t = gather (λ i. furtherRun t (suc i)) (t .runs .many - 1)

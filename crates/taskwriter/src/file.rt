@@ -2,6 +2,7 @@
 use crate::kinds::ADD;
 use crate::kinds::DELETE;
 use crate::kinds::END;
+use crate::kinds::LOCK;
 use crate::kinds::NEED;
 use crate::kinds::SIZES;
 use crate::sections::cell_records;
@@ -52,7 +53,8 @@ fn through_cells(task: Task, room: &mut [u8]) -> usize
     let next = through_goals(task, room);
     let next = cell_records(room, next, NEED, facts, actions, &task.table.needs);
     let next = cell_records(room, next, ADD, facts, actions, &task.table.adds);
-    cell_records(room, next, DELETE, facts, actions, &task.table.deletes)
+    let next = cell_records(room, next, DELETE, facts, actions, &task.table.deletes);
+    cell_records(room, next, LOCK, facts, actions, &task.table.locks)
 }
 
 // The runs after the first.

@@ -16,3 +16,5 @@ pub const STEP: u8 = records::kinds::STEP as u8;
 pub const END: u8 = records::kinds::END as u8;
 
 pub const RUN: u8 = records::kinds::RUN as u8;
+
+pub const LOCK: u8 = records::kinds::LOCK as u8;

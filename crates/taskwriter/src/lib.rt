@@ -1,4 +1,4 @@
-// Writing the task file (document 01, "The task file").
+// Writing the task file (document 01, "The task file"; 02, requests 1 and 6).
 mod file;
 mod kinds;
 mod sections;

@@ -17,6 +17,7 @@ shaped c = record {
   needs = search needs;
   adds = search needs;
   deletes = search needs;
+  locks = search needs;
   starts = search needs;
   goals = search needs;
   counts = search needs;
