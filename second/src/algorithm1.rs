@@ -59,13 +59,14 @@ fn conflict_in(run: &Run, table: &[Action]) -> Option<Conflict> {
     (missing != 0).then(|| conflict_at(run, table, run.count, missing.trailing_zeros() as usize))
 }
 
-/// Drop the need at this step (not for a goal), drop the last delete before it, add the fact at any step from that
-/// delete up to here.
+/// Drop the need at this step (not for a goal, nor if it is locked), drop the last delete before it, add the fact at any
+/// step from that delete up to here. At a locked need of a first step nothing is left.
 fn conflict_at(run: &Run, table: &[Action], step: usize, fact: usize) -> Conflict {
     let mut conflict = Conflict::new();
     let mut put = |kind, action| conflict.push(Repair { kind, action, fact }.number());
-    if step < run.count {
-        put(Kind::DropNeed, run.steps[step] as usize);
+    let needing = run.steps().get(step).map(|&action| action as usize);
+    if let Some(action) = needing.filter(|&action| !has(table[action].locks, fact)) {
+        put(Kind::DropNeed, action);
     }
     for &before in run.steps[..step].iter().rev() {
         let action = before as usize;

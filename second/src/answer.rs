@@ -14,7 +14,7 @@ pub struct Budget {
 }
 
 impl Budget {
-    pub fn of(lists: u64) -> Budget {
+    pub const fn of(lists: u64) -> Budget {
         Budget { left: lists }
     }
 
@@ -39,7 +39,8 @@ pub enum Found {
 /// `longest`.
 ///
 /// That no list of any length works is decided by making all the repairs: each repair only enlarges the later states
-/// or drops a need, so runs that some list makes valid stay valid with all the others made beside it.
+/// or drops a need, so runs that some list makes valid stay valid with all the others made beside it. A locked need is
+/// dropped by none of them.
 pub fn first_of_shortest(task: &Task, repairs: &[Repair], longest: usize, budget: Budget) -> Result<Found, Stop> {
     if !all_valid(&repaired(task, repairs)) {
         return Ok(Found::NoneAtAll);

@@ -1,5 +1,6 @@
 //! Tests of the reference: the bench sheet of document 01, row by row, several runs (02, request 1), which byte is
-//! wrong (02, request 2), a step that can't run (02, request 3), and what 01 and 02 say of all tasks.
+//! wrong (02, request 2), a step that can't run (02, request 3), locks in files (02, request 6; the rest of it is in
+//! lock_sheet.rs), and what 01 and 02 say of all tasks.
 
 use std::cmp::Ordering;
 
@@ -139,9 +140,10 @@ fn numbers_of_repairs_and_back() {
 }
 
 #[test]
-fn the_largest_file_has_21516_bytes_and_is_read_back() {
+fn the_largest_file_has_27660_bytes_and_is_read_back() {
     let file = file_of(&full_task());
-    assert_eq!(file.len(), 18_821 + 7 * 385);
+    assert_eq!(file.len(), 18_821 + 7 * 385 + 3 * 2048);
+    assert_eq!(file.len(), 27_660);
     assert_eq!(read(&file), Ok(full_task()));
 }
 
@@ -152,7 +154,8 @@ fn refusal_after_sizes(records: &[&[u8]]) -> Refusal {
 
 #[test]
 fn within_a_record_the_earlier_refusal_is_given() {
-    assert_eq!(read(&[10, 4]), Err(at(Ground::UnknownKind, 0)));
+    assert_eq!(read(&[11, 4]), Err(at(Ground::UnknownKind, 0)));
+    assert_eq!(read(&[10, 4]), Err(at(Ground::SizeRecord, 0)), "3 before the short body");
     assert_eq!(read(&[4, 0]), Err(at(Ground::SizeRecord, 0)), "3 before the short body");
     assert_eq!(read(&[1, 65]), Err(at(Ground::NoEnd, 0)), "the short body before 4");
     assert_eq!(refusal_after_sizes(&[&[1]]), at(Ground::SizeRecord, 4), "3 before the short body");
@@ -177,10 +180,13 @@ fn refusal_5_is_at_the_first_number_outside() {
     assert_eq!(refusal_after_sizes(&[&[2, 3], &[2, 4]]), at(Ground::Outside, 7), "a start fact");
     assert_eq!(refusal_after_sizes(&[&[3, 255]]), at(Ground::Outside, 5), "a goal fact");
     assert_eq!(refusal_after_sizes(&[&[7, 2], &[7, 3]]), at(Ground::Outside, 7), "a step");
-    for kind in 4..=6 {
+    for kind in [4, 5, 6, 10] {
         assert_eq!(refusal_after_sizes(&[&[kind, 3, 3]]), at(Ground::Outside, 5), "the action");
         assert_eq!(refusal_after_sizes(&[&[kind, 2, 4]]), at(Ground::Outside, 6), "the fact");
         assert_eq!(refusal_after_sizes(&[&[kind, 3, 4]]), at(Ground::Outside, 5), "both: the action's");
+        assert_eq!(refusal_after_sizes(&[&[4, 2, 3], &[kind, 2, 4]]), at(Ground::Outside, 9), "5 before 6 and 18");
+    }
+    for kind in 4..=6 {
         assert_eq!(refusal_after_sizes(&[&[kind, 2, 3]]), at(Ground::NoEnd, 7), "neither");
     }
 }
@@ -201,11 +207,48 @@ fn refusal_6_is_at_the_kind_byte_or_the_first_body_byte() {
     }
 }
 
+/// Needs (1, 2) and (2, 0), and then these records.
+fn refusal_after_needs(records: &[&[u8]]) -> Refusal {
+    refusal_after_sizes(&[&[4, 1, 2, 4, 2, 0], records.concat().as_slice()])
+}
+
+/// "It stands after kind 6 and before kind 7, strictly ascending. After a kind 9 it gets 6."
+#[test]
+fn a_lock_stands_after_kind_6_and_before_kind_7() {
+    assert_eq!(
+        refusal_after_needs(&[&[5, 0, 0], &[6, 0, 0], &[10, 1, 2], &[10, 2, 0], &[7, 0]]),
+        at(Ground::NoEnd, 24)
+    );
+    for table_kind in [4, 5, 6] {
+        let late = refusal_after_needs(&[&[10, 1, 2], &[table_kind, 2, 3]]);
+        assert_eq!(late, at(Ground::Order, 13), "kind {table_kind} after a lock");
+    }
+    assert_eq!(refusal_after_needs(&[&[7, 0], &[10, 1, 2]]), at(Ground::Order, 12), "a lock after a step");
+    assert_eq!(refusal_after_needs(&[&[10, 1, 2], &[10, 1, 2]]), at(Ground::Order, 14), "an equal body");
+    assert_eq!(refusal_after_needs(&[&[10, 2, 0], &[10, 1, 2]]), at(Ground::Order, 14), "the first goes down");
+    assert_eq!(refusal_after_needs(&[&[9], &[10, 1, 2]]), at(Ground::Order, 11));
+    assert_eq!(refusal_after_needs(&[&[10, 1, 2], &[9], &[7, 0], &[10, 2, 0]]), at(Ground::Order, 16));
+}
+
+/// "At the record's start after 6 and 16." A lock whose need would only follow it lacks it.
+#[test]
+fn refusal_18_is_at_the_start_of_a_lock_without_its_need() {
+    assert_eq!(refusal_after_needs(&[&[10, 2, 2]]), at(Ground::LockWithoutNeed, 10));
+    assert_eq!(refusal_after_needs(&[&[10, 1, 2], &[10, 2, 2]]), at(Ground::LockWithoutNeed, 13));
+    assert_eq!(refusal_after_needs(&[&[5, 0, 3], &[6, 0, 3], &[10, 0, 3]]), at(Ground::LockWithoutNeed, 16));
+    assert_eq!(refusal_after_sizes(&[&[10, 1, 2], &[4, 1, 2]]), at(Ground::LockWithoutNeed, 4));
+    assert_eq!(refusal_after_needs(&[&[10, 1, 2], &[10, 0, 0]]), at(Ground::Order, 14), "6 before 18");
+    assert_eq!(refusal_after_needs(&[&[7, 0], &[10, 0, 0]]), at(Ground::Order, 12), "6 before 18");
+    assert_eq!(refusal_after_needs(&[&[9], &[10, 0, 0]]), at(Ground::Order, 11), "6 before 18");
+    assert_eq!(refusal_after_needs(&[&[10, 0, 4]]), at(Ground::Outside, 12), "5 before 18");
+    assert_eq!(refusal_after_needs(&[&[10, 0]]), at(Ground::NoEnd, 10), "the short body before 18");
+}
+
 /// 5 and 6 alone moved with request 2.
 #[test]
 fn the_other_refusals_stay_at_the_start_of_the_record() {
     assert_eq!(refusal_after_sizes(&[&[4, 0]]), at(Ground::NoEnd, 4));
-    assert_eq!(refusal_after_sizes(&[&[2, 0], &[10, 0]]), at(Ground::UnknownKind, 6));
+    assert_eq!(refusal_after_sizes(&[&[2, 0], &[11, 0]]), at(Ground::UnknownKind, 6));
     assert_eq!(refusal_after_sizes(&[&[2, 0], &[1, 4, 3, 3]]), at(Ground::SizeRecord, 6));
     for sizes in [[0, 1, 0], [65, 1, 0], [1, 0, 0], [1, 33, 0], [1, 1, 7]] {
         assert_eq!(read(&[&[1], &sizes[..], &[8]].concat()), Err(at(Ground::SizeRange, 0)));
@@ -219,7 +262,7 @@ fn kind_9_opens_a_run_at_its_place() {
     assert_eq!(read(&[9]), Err(at(Ground::SizeRecord, 0)), "the size record comes first");
     assert_eq!(refusal_after_sizes(&[&[9]]), at(Ground::NoEnd, 5), "the end stays kind 8");
     assert_eq!(refusal_after_sizes(&[&[9, 1, 4, 3, 3]]), at(Ground::SizeRecord, 5));
-    for table_kind in 4..=6 {
+    for table_kind in [4, 5, 6, 10] {
         assert_eq!(refusal_after_sizes(&[&[9, table_kind, 0, 0]]), at(Ground::Order, 5));
         assert_eq!(refusal_after_sizes(&[&[9, table_kind, 0, 4]]), at(Ground::Outside, 7), "5 before 6");
         assert_eq!(refusal_after_sizes(&[&[9, table_kind, 0]]), at(Ground::NoEnd, 5), "the short body before 6");
@@ -289,20 +332,20 @@ fn totals(run: &Run, table: &[Action]) -> [u64; 2] {
 #[test]
 fn the_new_total_is_greater_or_smaller_than_the_old() {
     assert_eq!(totals(&case_2().runs[0], &case_2().table), [3, 2], "the row store no longer gives its goal");
-    let gives = Action { needs: 0b001, adds: 0b010, deletes: 0 };
+    let gives = Action { needs: 0b001, adds: 0b010, deletes: 0, locks: 0 };
     assert_eq!(totals(&run_of(0, 0b010, &[0]), &[gives]), [2, 1], "goal 1 is no longer given");
-    let takes = Action { needs: 0b001, adds: 0, deletes: 0b100 };
+    let takes = Action { needs: 0b001, adds: 0, deletes: 0b100, locks: 0 };
     assert_eq!(totals(&run_of(0b100, 0b100, &[0]), &[takes]), [1, 2], "goal 2 is no longer taken away");
-    let swaps = Action { needs: 0b001, adds: 0b010, deletes: 0b100 };
+    let swaps = Action { needs: 0b001, adds: 0b010, deletes: 0b100, locks: 0 };
     assert_eq!(totals(&run_of(0b100, 0b110, &[0]), &[swaps]), [2, 2], "goal 1 is open instead of goal 2");
 }
 
 /// "The controller rejects the step, keeps the state and tries the next."
 #[test]
 fn the_step_after_a_rejected_one_is_tried() {
-    let lacking = Action { needs: 0b001, adds: 0b010, deletes: 0 };
-    let free = Action { needs: 0, adds: 0b101, deletes: 0 };
-    let both = Action { needs: 0b110, adds: 0, deletes: 0 };
+    let lacking = Action { needs: 0b001, adds: 0b010, deletes: 0, locks: 0 };
+    let free = Action { needs: 0, adds: 0b101, deletes: 0, locks: 0 };
+    let both = Action { needs: 0b110, adds: 0, deletes: 0, locks: 0 };
     let table = [lacking, free, both];
     assert_eq!(totals(&run_of(0, 0, &[0, 1, 2]), &table), [2, 1], "step 3 has fact 2 of step 2, and lacks fact 1");
     assert_eq!(totals(&run_of(0, 0, &[0, 0, 2]), &table), [4, 3], "each step's own needs are counted");
@@ -439,7 +482,8 @@ fn both_rules_judge_alike_on_all_small_runs() {
     let mut met = Vec::new();
     for code in 0..1 << 16 {
         let set = |place: usize| code >> (2 * place) & 0b11;
-        let table = [0, 3].map(|place| Action { needs: set(place), adds: set(place + 1), deletes: set(place + 2) });
+        let table =
+            [0, 3].map(|place| Action { needs: set(place), adds: set(place + 1), deletes: set(place + 2), locks: 0 });
         let judge = |steps: &Vec<usize>| both_rules_judge_alike(&run_of(set(6), set(7), steps), &table);
         met.extend(step_lists.iter().map(judge));
     }
@@ -465,14 +509,18 @@ fn the_answer_is_the_join_of_the_rows_and_leaves_nothing_open() {
     assert!(compared > 1500, "only {compared} were affordable");
 }
 
-/// "A solve gives 9 exactly when a run without steps lacks a goal at its start."
+/// 9 is given exactly when a run without steps lacks a goal at its start, or a run's first step has a locked need that its
+/// start lacks.
 #[test]
-fn no_list_works_exactly_with_a_run_without_steps_that_lacks_a_goal() {
+fn no_list_works_exactly_with_a_goal_or_a_locked_need_absent_before_any_step() {
+    let lacks = |run: &Run, table: &[Action]| match run.actions(table).next() {
+        None => absent(run.goal, run.start) != 0,
+        Some(first) => absent(first.locks, run.start) != 0,
+    };
     for task in random_tasks(2000) {
-        let lacks = |run: &Run| run.count == 0 && absent(run.goal, run.start) != 0;
-        let closing_sentence = task.known_runs().iter().any(lacks);
+        let lacking = task.known_runs().iter().any(|run| lacks(run, &task.table));
         let hopeless = answer(&task, Budget::of(100)) == refused(plain(Ground::NoListAtAll));
-        assert_eq!(hopeless, closing_sentence);
+        assert_eq!(hopeless, lacking);
     }
 }
 

@@ -1,8 +1,8 @@
-//! The task file ("The task file"; 02, requests 1 and 2): the record reader, the reader of a whole file, the writer.
+//! The task file ("The task file"; 02, requests 1, 2 and 6): the record reader, the reader of a whole file, the writer.
 
 use crate::answer::lend;
 use crate::refusal::{at, Ground, Refusal};
-use crate::task::{facts_in, sizes_in_range, with, Action, Facts, Run, Task, MOST_RUNS, MOST_STEPS};
+use crate::task::{facts_in, has, sizes_in_range, with, Action, Facts, Run, Task, MOST_RUNS, MOST_STEPS};
 
 pub const SIZES: u8 = 1;
 pub const START: u8 = 2;
@@ -14,13 +14,21 @@ pub const STEP: u8 = 7;
 pub const END: u8 = 8;
 /// Opens a further run.
 pub const RUN: u8 = 9;
+/// "Kind 10 with action and fact marks a need as locked."
+pub const LOCK: u8 = 10;
+
+/// The kinds of the table's cells; only the first run has them.
+pub const TABLE_KINDS: [u8; 4] = [NEED, ADD, DELETE, LOCK];
+
+/// The known kinds in the order in which they "never go down": kind 10 "stands after kind 6 and before kind 7".
+const IN_ORDER: [u8; 10] = [SIZES, START, GOAL, NEED, ADD, DELETE, LOCK, STEP, RUN, END];
 
 /// How many bytes a kind's body has; none if there is no such kind.
 pub fn body_length(kind: u8) -> Option<usize> {
     match kind {
         SIZES => Some(3),
         START | GOAL | STEP => Some(1),
-        NEED | ADD | DELETE => Some(2),
+        NEED | ADD | DELETE | LOCK => Some(2),
         END | RUN => Some(0),
         _ => None,
     }
@@ -30,7 +38,7 @@ pub fn body_length(kind: u8) -> Option<usize> {
 pub fn bounds(kind: u8, facts: usize, actions: usize) -> Vec<usize> {
     match kind {
         START | GOAL => vec![facts],
-        NEED | ADD | DELETE => vec![actions, facts],
+        NEED | ADD | DELETE | LOCK => vec![actions, facts],
         STEP => vec![actions],
         _ => vec![],
     }
@@ -92,7 +100,7 @@ pub fn record_around(file: &[u8], place: usize) -> Option<[Record<'_>; 2]> {
 }
 
 /// Reads a whole file. The first faulty record decides; within it 1 (no kind byte), 2, 3, 1 (short body), 4, 5, 6, 16,
-/// 7; then 8 after a good end, at the first such byte. The others are at the record's start, but 5 and 6 at the byte
+/// 18, 7; then 8 after a good end, at the first such byte. The others are at the record's start, but 5 and 6 at the byte
 /// that is wrong (02, request 2).
 pub fn read(file: &[u8]) -> Result<Task, Refusal> {
     let mut reading = Reading { task: Task::zeros(), last: None };
@@ -128,17 +136,22 @@ fn sizes_fit(record: &Record) -> Result<(), Refusal> {
 }
 
 /// Where a record breaks the order, if it does. "Kinds never go down. Within each of kinds 2 to 6 the bodies strictly
-/// ascend, first number first." In a further run the order begins anew, and it holds no table kind; kind 9 and the end
-/// are never too early. The place is "the kind byte if the kind is out of order and the first body byte otherwise" (02,
-/// request 2).
+/// ascend, first number first", and those of kind 10 too. In a further run the order begins anew, and it holds no table
+/// kind; kind 9 and the end are never too early. The place is "the kind byte if the kind is out of order and the first
+/// body byte otherwise" (02, request 2).
 pub fn order_breaks_at(last: &Record, record: &Record, further: bool) -> Option<usize> {
-    let table_kind = (NEED..=DELETE).contains(&record.kind);
-    let down = last.kind != RUN && record.kind < last.kind;
+    let table_kind = TABLE_KINDS.contains(&record.kind);
+    let down = last.kind != RUN && turn(record.kind) < turn(last.kind);
     if down || (further && table_kind) {
         return Some(record.place());
     }
-    let same = record.kind == last.kind && (START..=DELETE).contains(&record.kind);
-    (same && record.body <= last.body).then_some(record.start)
+    let ascending = table_kind || [START, GOAL].contains(&record.kind);
+    (ascending && record.kind == last.kind && record.body <= last.body).then_some(record.start)
+}
+
+/// Which turn a known kind has in the order.
+fn turn(kind: u8) -> Option<usize> {
+    IN_ORDER.iter().position(|&known| known == kind)
 }
 
 /// What has been read so far, and the last record.
@@ -170,7 +183,8 @@ impl<'a> Reading<'a> {
         place.map_or(Ok(()), |place| Err(at(Ground::Order, place)))
     }
 
-    /// Takes a record that fits into the task; a ninth run and a run's 65th step are refused.
+    /// Takes a record that fits into the task; a ninth run, a lock on a cell that isn't a need and a run's 65th step are
+    /// refused.
     fn take(&mut self, record: &Record) -> Result<(), Refusal> {
         let task = &mut self.task;
         let place = record.place();
@@ -184,6 +198,10 @@ impl<'a> Reading<'a> {
             (DELETE, &[action, fact]) => set(&mut task.table[action as usize].deletes, fact),
             (RUN, _) if task.many == MOST_RUNS => return Err(at(Ground::TooManyRuns, place)),
             (RUN, _) => task.open_run(),
+            (LOCK, &[action, fact]) if !has(task.table[action as usize].needs, fact as usize) => {
+                return Err(at(Ground::LockWithoutNeed, place));
+            }
+            (LOCK, &[action, fact]) => set(&mut task.table[action as usize].locks, fact),
             (STEP, _) if task.last_run().count == MOST_STEPS => return Err(at(Ground::TooManySteps, place)),
             (STEP, &[action]) => task.last_run().push_step(action as usize),
             _ => {}
@@ -215,10 +233,10 @@ fn ends_of(run: &Run) -> Vec<u8> {
     [(START, run.start), (GOAL, run.goal)].into_iter().flat_map(of_kind).collect()
 }
 
-/// The records of the needs, adds and deletes.
+/// The records of the needs, adds, deletes and locks.
 fn table_of(task: &Task) -> Vec<u8> {
     let mut records = Vec::new();
-    for kind in [NEED, ADD, DELETE] {
+    for kind in TABLE_KINDS {
         for (index, action) in task.table[..task.actions].iter().enumerate() {
             records.extend(facts_in(cells(action, kind)).flat_map(|fact| [kind, index as u8, fact as u8]));
         }
@@ -231,7 +249,8 @@ fn cells(action: &Action, kind: u8) -> Facts {
     match kind {
         NEED => action.needs,
         ADD => action.adds,
-        _ => action.deletes,
+        DELETE => action.deletes,
+        _ => action.locks,
     }
 }
 

@@ -1,4 +1,4 @@
-//! Hard tasks for the benchmark, written as task files into a folder.
+//! Hard tasks for the benchmark, written as task files into a folder. None has a lock, so that figures stay comparable.
 //!
 //! - `slips-NN`: 64 facts, 32 actions, 64 steps and an answer of three repairs;
 //! - `deep-..`: the hardest single facts that 64 steps allow, with no list within six;

@@ -31,6 +31,8 @@ mod faults;
 mod file;
 mod hard;
 mod listing;
+#[cfg(test)]
+mod lock_sheet;
 mod options;
 mod pddl;
 mod protocol;

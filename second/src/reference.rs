@@ -120,7 +120,9 @@ fn edit_of(words: &[u64]) -> Edit {
         1 => Cell::Add { action },
         2 => Cell::Delete { action },
         3 => Cell::Start { run },
-        _ => Cell::Goal { run },
+        4 => Cell::Goal { run },
+        5 => Cell::Lock { action },
+        _ => Cell::Unknown,
     };
     Edit { cell, fact: words[2], present: words[3] != 0 }
 }

@@ -22,6 +22,8 @@ pub enum Ground {
     TooManyRuns = 16,
     /// Of a PDDL text (02, request 4).
     OutsideLayout = 17,
+    /// In a file, or at 0 in an edit (02, request 6).
+    LockWithoutNeed = 18,
 }
 
 /// A refusal: its ground and its place.
@@ -58,7 +60,7 @@ pub fn at(ground: Ground, place: usize) -> Refusal {
     Refusal { ground, place: place as u64 }
 }
 
-/// A refusal whose place is 0, as of every ground from 9 to 14.
+/// A refusal whose place is 0, as of every ground from 9 to 14, and of 18 in an edit.
 pub fn plain(ground: Ground) -> Refusal {
     at(ground, 0)
 }

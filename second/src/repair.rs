@@ -39,6 +39,7 @@ impl Repair {
         }
     }
 
+    /// 01's rule for the kind. 02: "Permitted now also means 'not a locked need'."
     pub fn permitted(&self, task: &Task) -> bool {
         if self.action >= task.actions || self.fact >= task.facts {
             return false;
@@ -47,7 +48,7 @@ impl Repair {
         match self.kind {
             Kind::DropDelete => has(cells.deletes, self.fact),
             Kind::AddEffect => !has(cells.adds, self.fact),
-            Kind::DropNeed => has(cells.needs, self.fact),
+            Kind::DropNeed => has(cells.needs, self.fact) && !has(cells.locks, self.fact),
         }
     }
 

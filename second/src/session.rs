@@ -1,9 +1,9 @@
-//! The edit session ("The session table"): a row per fact, opening, editing, the test of form, and listing.
+//! The edit session ("The session table"; 02, request 6): a row per fact, opening, editing, the test of form, and listing.
 
 use crate::answer::{first_of_shortest, Budget, Found};
 use crate::refusal::{plain, Ground, Refusal, Stop};
 use crate::repair::{permitted_of, Repair};
-use crate::task::{only, with, Facts, Task, MOST_FACTS};
+use crate::task::{has, only, with, Facts, Task, MOST_FACTS};
 
 pub const ROW: usize = 7;
 pub const TABLE: usize = MOST_FACTS * ROW;
@@ -25,6 +25,7 @@ fn alone(task: &Task, fact: usize) -> Task {
         action.needs &= only(fact);
         action.adds &= only(fact);
         action.deletes &= only(fact);
+        action.locks &= only(fact);
     }
     for run in &mut column.runs {
         run.start &= only(fact);
@@ -83,7 +84,7 @@ pub fn rows(task: &Task, budget: Budget) -> Result<Vec<u16>, Stop> {
 }
 
 /// "An edit names a kind of cell with its action and fact, or a start or goal fact." 02: "A start or goal edit [..]
-/// name[s its] run."
+/// name[s its] run", and "edits can set and clear a lock". A kind of cell that isn't there is unknown.
 #[derive(Clone, Copy, PartialEq, Eq, Debug)]
 pub enum Cell {
     Need { action: u64 },
@@ -91,6 +92,8 @@ pub enum Cell {
     Delete { action: u64 },
     Start { run: u64 },
     Goal { run: u64 },
+    Lock { action: u64 },
+    Unknown,
 }
 
 #[derive(Clone, Copy, PartialEq, Eq, Debug)]
@@ -101,38 +104,55 @@ pub struct Edit {
 }
 
 impl Edit {
-    /// Refusal 14 if the fact, the action of a cell, or the run of a start or goal, is not in the task.
-    fn must_be_inside(&self, task: &Task) -> Result<(), Refusal> {
-        let place_inside = match self.cell {
-            Cell::Need { action } | Cell::Add { action } | Cell::Delete { action } => action < task.actions as u64,
-            Cell::Start { run } | Cell::Goal { run } => task.has_run(run),
-        };
-        if place_inside && self.fact < task.facts as u64 {
-            Ok(())
-        } else {
-            Err(plain(Ground::NotThere))
+    /// The set that the edit changes: none if the kind, the fact, the action of a cell, or the run of a start or goal, is
+    /// not there.
+    fn set_of<'a>(&self, task: &'a mut Task) -> Option<&'a mut Facts> {
+        if self.fact >= task.facts as u64 {
+            return None;
+        }
+        let (table, runs) = (&mut task.table[..task.actions], &mut task.runs[..task.many]);
+        match self.cell {
+            Cell::Need { action } => Some(&mut at_mut(table, action)?.needs),
+            Cell::Add { action } => Some(&mut at_mut(table, action)?.adds),
+            Cell::Delete { action } => Some(&mut at_mut(table, action)?.deletes),
+            Cell::Start { run } => Some(&mut at_mut(runs, run)?.start),
+            Cell::Goal { run } => Some(&mut at_mut(runs, run)?.goal),
+            Cell::Lock { action } => Some(&mut at_mut(table, action)?.locks),
+            Cell::Unknown => None,
         }
     }
 
-    fn set_of<'a>(&self, task: &'a mut Task) -> &'a mut Facts {
-        match self.cell {
-            Cell::Need { action } => &mut task.table[action as usize].needs,
-            Cell::Add { action } => &mut task.table[action as usize].adds,
-            Cell::Delete { action } => &mut task.table[action as usize].deletes,
-            Cell::Start { run } => &mut task.runs[run as usize].start,
-            Cell::Goal { run } => &mut task.runs[run as usize].goal,
+    /// "18 for a lock set on a cell that isn't a need, or a need cleared under a lock." Only for an edit of a cell that is
+    /// there.
+    fn must_leave_locks_on_needs(&self, task: &Task) -> Result<(), Refusal> {
+        let cell_of = |action: u64| &task.table[action as usize];
+        let fact = self.fact as usize;
+        let without_need = match self.cell {
+            Cell::Lock { action } => self.present && !has(cell_of(action).needs, fact),
+            Cell::Need { action } => !self.present && has(cell_of(action).locks, fact),
+            _ => false,
+        };
+        if without_need {
+            Err(plain(Ground::LockWithoutNeed))
+        } else {
+            Ok(())
         }
     }
 }
 
-/// An edit: 12, 13, 14. Gives the edited task and writes the fact's row afresh; "other rows are kept as found".
+/// The item with this number, if it is there.
+fn at_mut<T>(items: &mut [T], index: u64) -> Option<&mut T> {
+    items.get_mut(usize::try_from(index).ok()?)
+}
+
+/// An edit: 12, 13, 14, 18. Gives the edited task and writes the fact's row afresh; "other rows are kept as found".
 pub fn edit(task: &Task, edit: &Edit, table: &mut [u16], budget: Budget) -> Result<Task, Stop> {
     task.must_be_well_formed()?;
     must_have_length(table)?;
-    edit.must_be_inside(task)?;
     let fact = edit.fact as usize;
     let mut edited = *task;
-    let set = edit.set_of(&mut edited);
+    let set = edit.set_of(&mut edited).ok_or(plain(Ground::NotThere))?;
+    edit.must_leave_locks_on_needs(task)?;
     *set = with(*set, fact, edit.present);
     table[fact * ROW..][..ROW].copy_from_slice(&row(&edited, fact, budget)?);
     Ok(edited)

@@ -1,5 +1,5 @@
-//! A task: sizes, action table and runs ("The model and its run", "Sizes"; 02, request 1), well formed or not, and its
-//! 636 words.
+//! A task: sizes, action table and runs ("The model and its run", "Sizes"; 02, requests 1 and 6), well formed or not, and
+//! its 668 words.
 
 use crate::refusal::{plain, Ground, Refusal};
 
@@ -9,9 +9,9 @@ pub const MOST_STEPS: usize = 64;
 pub const MOST_RUNS: usize = 8;
 pub const HIGHEST_LIMIT: usize = 6;
 
-/// How many words a task crosses as: three sizes, three sets an action, the number of runs, and of each run its start,
+/// How many words a task crosses as: three sizes, four sets an action, the number of runs, and of each run its start,
 /// its goal, its number of steps and its steps.
-pub const WORDS: usize = 3 + 3 * MOST_ACTIONS + 1 + MOST_RUNS * (3 + MOST_STEPS);
+pub const WORDS: usize = 3 + 4 * MOST_ACTIONS + 1 + MOST_RUNS * (3 + MOST_STEPS);
 
 /// A set of facts: fact f is in it if bit f is set.
 pub type Facts = u64;
@@ -44,6 +44,15 @@ pub struct Action {
     pub needs: Facts,
     pub adds: Facts,
     pub deletes: Facts,
+    /// The needs that no list may drop (02, request 6).
+    pub locks: Facts,
+}
+
+impl Action {
+    /// No fact at or above F, and no lock "on a cell that isn't a need". So locks have no fact at or above F either.
+    fn well_formed(&self, facts: usize) -> bool {
+        within(self.needs | self.adds | self.deletes, facts) && self.locks & !self.needs == 0
+    }
 }
 
 /// One known run: where it starts, what must hold at its end, and its steps.
@@ -122,6 +131,13 @@ impl Task {
         &self.runs[..self.many]
     }
 
+    /// The task without its locks.
+    pub fn unlocked(&self) -> Task {
+        let mut task = *self;
+        task.table.iter_mut().for_each(|action| action.locks = 0);
+        task
+    }
+
     /// Opens a further run, an empty one.
     pub fn open_run(&mut self) {
         self.many += 1;
@@ -133,11 +149,12 @@ impl Task {
     }
 
     /// "A task is well formed if its sizes are in range, no set has a fact at or above F, steps are below A, and
-    /// everything for unused actions and steps is zero." 02: "Everything for unused runs is zero."
+    /// everything for unused actions and steps is zero." 02: "Everything for unused runs is zero", and locks stand on
+    /// needs alone.
     pub fn well_formed(&self) -> bool {
         sizes_in_range(self.facts, self.actions, self.limit)
             && (1..=MOST_RUNS).contains(&self.many)
-            && self.table.iter().all(|action| within(action.needs | action.adds | action.deletes, self.facts))
+            && self.table.iter().all(|action| action.well_formed(self.facts))
             && self.table[self.actions..].iter().all(|action| *action == Action::default())
             && self.known_runs().iter().all(|run| run.well_formed(self.facts, self.actions))
             && self.runs[self.many..].iter().all(|run| *run == Run::empty())
@@ -166,13 +183,14 @@ impl Task {
         Ok(&self.runs[run as usize])
     }
 
-    /// The task's words: facts, actions, limit, needs, adds, deletes, how many runs, their starts, goals and counts, and
-    /// the steps, 64 a run.
+    /// The task's words: facts, actions, limit, needs, adds, deletes, locks, how many runs, their starts, goals and
+    /// counts, and the steps, 64 a run.
     pub fn words(&self) -> Vec<u64> {
         let mut words = vec![self.facts as u64, self.actions as u64, self.limit as u64];
         words.extend(self.table.iter().map(|action| action.needs));
         words.extend(self.table.iter().map(|action| action.adds));
         words.extend(self.table.iter().map(|action| action.deletes));
+        words.extend(self.table.iter().map(|action| action.locks));
         words.push(self.many as u64);
         words.extend(self.runs.iter().map(|run| run.start));
         words.extend(self.runs.iter().map(|run| run.goal));
@@ -187,12 +205,12 @@ impl Task {
             return Task::zeros();
         }
         let (sizes, rest) = words.split_at(3);
-        let (table, rest) = rest.split_at(3 * MOST_ACTIONS);
+        let (table, rest) = rest.split_at(4 * MOST_ACTIONS);
         let (many, runs) = rest.split_at(1);
         let mut task = Task::sized(sizes[0] as usize, sizes[1] as usize, sizes[2] as usize);
         for (index, action) in task.table.iter_mut().enumerate() {
-            let [needs, adds, deletes] = [0, 1, 2].map(|set| table[set * MOST_ACTIONS + index]);
-            *action = Action { needs, adds, deletes };
+            let [needs, adds, deletes, locks] = [0, 1, 2, 3].map(|set| table[set * MOST_ACTIONS + index]);
+            *action = Action { needs, adds, deletes, locks };
         }
         task.many = many[0] as usize;
         for (index, run) in task.runs.iter_mut().enumerate() {

@@ -7,6 +7,7 @@ const SECOND: &str = env!("CARGO_BIN_EXE_second");
 /// How many cases of each sort are compared.
 const ALL: [&str; 8] = ["--tasks", "1500", "--files", "1500", "--edits", "1500", "--texts", "400"];
 const WITHOUT_TEXTS: [&str; 8] = ["--tasks", "1500", "--files", "1500", "--edits", "1500", "--texts", "0"];
+const ONLY_EDITS: [&str; 8] = ["--tasks", "0", "--files", "0", "--edits", "1500", "--texts", "0"];
 const ONLY_TEXTS: [&str; 8] = ["--tasks", "0", "--files", "0", "--edits", "0", "--texts", "400"];
 
 fn compare(driver: &[&str], cases: [&str; 8]) -> Output {
@@ -49,13 +50,35 @@ fn a_right_driver_passes() {
     assert_eq!(met(&text(&output), places), [true; 4]);
 }
 
+/// What the comparison has to meet of locks, each at least once.
+#[test]
+fn locks_are_met_everywhere() {
+    let printed = text(&compare(&[SECOND, "drive"], ALL));
+    for name in [
+        "solves refused 9, for a goal without steps, for locked needs alone",
+        "rows that say 8, for a goal without steps, for locked needs alone",
+        "solves with locks, as without them, another list, 10, 9",
+        "calls refused for locks alone, with 12, 13, 15",
+        "edits refused 18, a lock set, a need cleared",
+        "edits that set or cleared a lock",
+        "reads refused at a lock, with 5, 6 for its kind, 6 for no ascent, 18",
+    ] {
+        assert!(met(&printed, name).into_iter().all(|met| met), "{name}:\n{printed}");
+    }
+}
+
+/// The cases that a fault is to be found in.
+fn cases_for(fault: &str) -> [&'static str; 8] {
+    let sorts = [("pddl-", ONLY_TEXTS), ("lock-edit-", ONLY_EDITS)];
+    sorts.into_iter().find(|(name, _)| fault.starts_with(name)).map_or(WITHOUT_TEXTS, |(_, cases)| cases)
+}
+
 #[test]
 fn each_fault_is_found_and_shown() {
     let faults = faults();
-    assert!(faults.len() >= 20, "the faults are named");
+    assert!(faults.len() >= 100, "the faults are named");
     for fault in faults {
-        let cases = if fault.starts_with("pddl-") { ONLY_TEXTS } else { WITHOUT_TEXTS };
-        let output = compare(&[SECOND, "drive", "--break", &fault], cases);
+        let output = compare(&[SECOND, "drive", "--break", &fault], cases_for(&fault));
         assert_eq!(output.status.code(), Some(1), "{fault} passed:\n{}", text(&output));
         assert!(text(&output).contains("different: seed 7, case"), "{fault}");
         assert!(text(&output).contains("\nfile: "), "{fault}");

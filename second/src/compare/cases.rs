@@ -1,14 +1,15 @@
 //! The cases: what is asked of both sides about one random task, one file, one session.
 
 use super::files::{damaged, places};
-use super::tasks::{busy_fact, full_task, malformed, random_task, repair_list, run_action};
+use super::tasks::{busy_fact, cell_in, full_task, locked_drop, malformed, random_task, repair_list, run_action};
 use super::{Comparison, End, Outcome};
 use crate::file::file_of;
+use crate::listing::MOST_INPUT;
 use crate::protocol::{bytes_of, numbers_of, Call, Request, Response};
 use crate::random::Random;
 use crate::repair::{Repair, KINDS};
 use crate::session::{row_of, MORE_THAN_SIX, NO_LIST, ROW, TABLE, UNUSED};
-use crate::task::{Task, MOST_FACTS, MOST_RUNS};
+use crate::task::{Task, HIGHEST_LIMIT, MOST_FACTS, MOST_RUNS};
 
 pub fn request(call: Call, words: &[u64], bytes: Vec<u8>) -> Request {
     Request { call, words: words.to_vec(), bytes }
@@ -45,6 +46,7 @@ pub fn task(comparison: &mut Comparison, mut random: Random) -> Outcome<()> {
         comparison.ask(request(Call::Apply, &words, bytes_of(&repair_list(&task, random))))?;
     }
     solve_and_apply(comparison, &task, random)?;
+    solve_without_locks(comparison, &task)?;
     open_and_list(comparison, &task, random)?;
     if random.chance(4) {
         malformed_task(comparison, &malformed(&task, random), random)?;
@@ -78,6 +80,20 @@ fn solve_and_apply(comparison: &mut Comparison, task: &Task, random: &mut Random
     Ok(())
 }
 
+/// Solves a task that has locks with them and without, to count what they change.
+fn solve_without_locks(comparison: &mut Comparison, task: &Task) -> Outcome<()> {
+    if *task == task.unlocked() {
+        return Ok(());
+    }
+    let room = bytes_of(&[UNUSED; HIGHEST_LIMIT]);
+    let locked = comparison.ask(request(Call::Solve, &task.words(), room.clone()))?;
+    let unlocked = comparison.ask(request(Call::Solve, &task.unlocked().words(), room))?;
+    if let (Some(locked), Some(unlocked)) = (locked, unlocked) {
+        comparison.counts.locks.take_beside(&locked, &unlocked);
+    }
+    Ok(())
+}
+
 /// Opens tables of the right and of wrong lengths, and lists into rooms of several lengths.
 fn open_and_list(comparison: &mut Comparison, task: &Task, random: &mut Random) -> Outcome<()> {
     let words = task.words();
@@ -107,23 +123,25 @@ fn malformed_task(comparison: &mut Comparison, words: &[u64], random: &mut Rando
         comparison.ask(request(call, words, numbers.clone()))?;
     }
     check_runs(comparison, words, random)?;
-    let edit = [words, &[random.below(5) as u64, 0, 0, 1]].concat();
+    let edit = [words, &[random.below(CELL_KINDS) as u64, 0, 0, 1]].concat();
     comparison.ask(request(Call::Edit, &edit, numbers))?;
     list(comparison, words, &random.numbers(length), &random.numbers(3))?;
     Ok(())
 }
 
-/// One in so many files is the largest, and one in so many inputs is longer than the program reads.
-const SELDOM: usize = 400;
+/// One in so many files is the largest, half of them undamaged, and one in so many inputs is longer than the program
+/// reads.
+const SELDOM: usize = 250;
 
 /// One file, good or damaged: read, listed, and its records asked for at several places.
 pub fn file(comparison: &mut Comparison, mut random: Random) -> Outcome<()> {
     let random = &mut random;
     comparison.counts.files += 1;
-    let task = if random.below(SELDOM) == 0 { full_task() } else { random_task(random) };
-    let mut file = damaged(&file_of(&task), random);
+    let full = random.below(SELDOM) == 0;
+    let good = file_of(&if full { full_task() } else { random_task(random) });
+    let mut file = if full && random.chance(8) { good } else { damaged(&good, random) };
     if random.below(SELDOM) == 0 {
-        file.resize(random.between(23_990, 24_010), random.pick(&[0, 7, 8, 9]));
+        file.resize(random.between(MOST_INPUT - 10, MOST_INPUT + 10), random.pick(&[0, 7, 8, 9, 10]));
     }
     comparison.ask(request(Call::Read, &[], file.clone()))?;
     comparison.ask(request(Call::Listing, &[], file.clone()))?;
@@ -164,21 +182,37 @@ pub fn session(comparison: &mut Comparison, mut random: Random, wanted: usize) -
     Ok(())
 }
 
+/// How many kinds of cell an edit may name: 0 need, 1 add, 2 delete, 3 start, 4 goal, 5 lock.
+const CELL_KINDS: usize = 6;
+
 /// The four numbers of an edit, mostly of a good one. A start or goal names a run where the others name an action.
 fn random_edit(task: &Task, random: &mut Random) -> [u64; 4] {
     let far = random.pick(&[1 << 8, 1 << 32, 1 << 63, u64::MAX]);
-    let kind = random.below(5) as u64;
-    let (mut place, many) = match kind {
-        0..=2 => (run_action(task, random), task.actions),
-        _ => (random.below(task.many), task.many),
-    };
-    let mut fact = if random.chance(8) { random.below(task.facts) } else { busy_fact(task, random) } as u64;
+    let mut kind = random.below(CELL_KINDS) as u64;
+    let (mut place, mut fact) = cell_of_kind(task, kind, random);
+    let many = if [3, 4].contains(&kind) { task.many } else { task.actions };
     match random.below(32) {
-        0 | 1 => place = random.pick(&[many, MOST_RUNS.max(many), far as usize]),
+        0 | 1 => place = random.pick(&[many, many, MOST_RUNS.max(many), far as usize]),
         2 | 3 => fact = random.pick(&[task.facts as u64, far]),
+        4 => kind = random.pick(&[CELL_KINDS as u64, 255, far]),
         _ => {}
     }
     [kind, place as u64, fact, random.pick(&[0, 0, 0, 1, 1, 2, far])]
+}
+
+/// An action, or of kinds 3 and 4 a run, and a fact. Of a lock often those of a need, and of a need often those of a lock.
+fn cell_of_kind(task: &Task, kind: u64, random: &mut Random) -> (usize, u64) {
+    let wanted = match kind {
+        0 if random.chance(4) => cell_in(task, |action| action.locks, random),
+        5 if random.chance(12) => cell_in(task, |action| action.needs, random),
+        _ => None,
+    };
+    if let Some((action, fact)) = wanted {
+        return (action, fact as u64);
+    }
+    let place = if [3, 4].contains(&kind) { random.below(task.many) } else { run_action(task, random) };
+    let fact = if random.chance(8) { random.below(task.facts) } else { busy_fact(task, random) };
+    (place, fact as u64)
 }
 
 /// One edit, mostly good, sometimes outside, sometimes with a table of a wrong length, sometimes both.
@@ -228,8 +262,13 @@ fn list_and_solve(comparison: &mut Comparison, session: &Session, random: &mut R
 /// Changes the table behind the session's back: some of the rows stay in form, and are wrong.
 fn tamper(session: &mut Session, random: &mut Random) {
     session.honest = false;
-    let facts = session.words[0] as usize;
-    let fact = if random.chance(12) { random.below(facts) } else { random.below(MOST_FACTS) };
+    let task = Task::from_words(&session.words);
+    if let Some(locked) = locked_drop(&task, random).filter(|_| random.chance(6)) {
+        let fact = Repair::of_number(locked).fact;
+        session.table[fact * ROW..][..ROW].copy_from_slice(&row_of(1, &[locked]));
+        return;
+    }
+    let fact = if random.chance(12) { random.below(task.facts) } else { random.below(MOST_FACTS) };
     let own = |code: usize| Repair { kind: KINDS[code / 32], action: code % 32, fact }.number();
     let code = random.below(95);
     let row = &mut session.table[fact * ROW..][..ROW];

@@ -1,6 +1,6 @@
-//! Damage to task files: bits, bytes, records, runs, numbers, sizes, cuts, and bytes that never were a file.
+//! Damage to task files: bits, bytes, records, runs, locks, numbers, sizes, cuts, and bytes that never were a file.
 
-use crate::file::{body_length, bounds, records, DELETE, END, NEED, RUN, SIZES, START, STEP};
+use crate::file::{body_length, bounds, records, END, GOAL, LOCK, NEED, RUN, SIZES, START, STEP, TABLE_KINDS};
 use crate::random::Random;
 use crate::task::MOST_RUNS;
 
@@ -8,11 +8,12 @@ use crate::task::MOST_RUNS;
 pub fn damaged(good: &[u8], random: &mut Random) -> Vec<u8> {
     let mut file = good.to_vec();
     for _ in 0..random.pick(&[0, 1, 1, 1, 1, 2, 3]) {
-        file = match random.below(6) {
+        file = match random.below(8) {
             0 | 1 => damage_records(&file, random),
             2 => damage_bytes(file, random),
             3 => damage_runs(&file, random),
             4 => damage_numbers(&file, random),
+            5 | 6 => damage_locks(&file, random),
             _ => damage_ends(file, random),
         };
     }
@@ -34,7 +35,7 @@ fn damage_records(file: &[u8], random: &mut Random) -> Vec<u8> {
         3 if index > 0 => parts.swap(index - 1, index),
         4 => parts.insert(index, parts[other].clone()),
         5 => parts.insert(index, random_record(random)),
-        6 => parts[index][0] = random.between(0, RUN as usize + 1) as u8,
+        6 => parts[index][0] = random.between(0, LOCK as usize + 1) as u8,
         _ => {
             let place = random.below(parts[index].len());
             parts[index][place] = edge_byte(random);
@@ -45,7 +46,11 @@ fn damage_records(file: &[u8], random: &mut Random) -> Vec<u8> {
 
 /// A record of a known kind with numbers that may or may not fit.
 fn random_record(random: &mut Random) -> Vec<u8> {
-    record_of_kind(random.between(1, RUN as usize) as u8, random)
+    record_of_kind(some_kind(random), random)
+}
+
+fn some_kind(random: &mut Random) -> u8 {
+    random.between(SIZES as usize, LOCK as usize) as u8
 }
 
 fn record_of_kind(kind: u8, random: &mut Random) -> Vec<u8> {
@@ -57,7 +62,7 @@ fn record_of_kind(kind: u8, random: &mut Random) -> Vec<u8> {
 
 /// A byte that stands at the edge of some range.
 fn edge_byte(random: &mut Random) -> u8 {
-    random.pick(&[0, 1, 2, 3, 6, 7, 8, 9, 10, 31, 32, 33, 62, 63, 64, 65, 127, 128, 255])
+    random.pick(&[0, 1, 2, 3, 6, 7, 8, 9, 10, 11, 31, 32, 33, 62, 63, 64, 65, 127, 128, 255])
 }
 
 /// Kind 9 at any place, further runs up to ten in all, any record in a further run, or a cut right behind a kind 9.
@@ -103,7 +108,7 @@ fn put_in_further_run(parts: &mut Vec<Vec<u8>>, random: &mut Random) {
     }
     let first = places_of(parts, RUN)[0];
     let record =
-        if random.chance(8) { record_of_kind(NEED + random.below(3) as u8, random) } else { random_record(random) };
+        if random.chance(8) { record_of_kind(random.pick(&TABLE_KINDS), random) } else { random_record(random) };
     parts.insert(random.between(first + 1, parts.len()), record);
 }
 
@@ -112,15 +117,50 @@ fn cut_behind_run(parts: &mut Vec<Vec<u8>>, random: &mut Random) {
     let places = places_of(parts, RUN);
     if !places.is_empty() {
         parts.truncate(random.pick(&places) + 1);
-        parts.extend(random.chance(8).then(|| vec![random.between(1, RUN as usize) as u8]));
+        parts.extend(random.chance(8).then(|| vec![some_kind(random)]));
     }
 }
 
-/// A number outside in a record of kinds 2 to 6, or such a record that does not ascend from the one before it; now and
-/// then both in one record.
+/// Locks taken out, repeated, put in or moved, and needs taken out from under them: mostly where a lock may stand, so that
+/// it lacks its need or does not ascend, and else where it may not.
+fn damage_locks(file: &[u8], random: &mut Random) -> Vec<u8> {
+    let mut parts = split(file);
+    let (needs, locks) = (places_of(&parts, NEED), places_of(&parts, LOCK));
+    let place = place_for_lock(&parts, random);
+    match random.below(6) {
+        0 if !needs.is_empty() => drop(parts.remove(random.pick(&needs))),
+        1 if !locks.is_empty() => parts.insert(place, parts[random.pick(&locks)].clone()),
+        2 if !locks.is_empty() => {
+            let moved = parts.remove(random.pick(&locks));
+            parts.insert(place.min(parts.len()), moved);
+        }
+        3 if !needs.is_empty() => {
+            let need = parts[random.pick(&needs)].clone();
+            parts.insert(place, [&[LOCK], &need[1..]].concat());
+        }
+        4 if !locks.is_empty() => parts[random.pick(&locks)][0] = random.pick(&TABLE_KINDS),
+        _ => parts.insert(place, record_of_kind(LOCK, random)),
+    }
+    parts.concat()
+}
+
+/// Where a lock is put: often right before the first run's steps, behind the locks that stand there; or behind the first
+/// kind 9; or anywhere.
+fn place_for_lock(parts: &[Vec<u8>], random: &mut Random) -> usize {
+    let behind = parts.iter().position(|part| [STEP, RUN, END].contains(&part[0])).unwrap_or(parts.len());
+    match (random.below(16), places_of(parts, RUN).first()) {
+        (0..=8, _) => behind,
+        (9..=11, Some(further)) => random.between(further + 1, parts.len()),
+        _ => random.below(parts.len() + 1),
+    }
+}
+
+/// A number outside in a record of a kind whose bodies ascend, or such a record that does not ascend from the one before
+/// it; now and then both in one record.
 fn damage_numbers(file: &[u8], random: &mut Random) -> Vec<u8> {
     let mut parts = split(file);
-    let places: Vec<usize> = (START..=DELETE).flat_map(|kind| places_of(&parts, kind)).collect();
+    let kinds = [START, GOAL].into_iter().chain(TABLE_KINDS);
+    let places: Vec<usize> = kinds.flat_map(|kind| places_of(&parts, kind)).collect();
     let &[SIZES, facts, actions, _] = parts.first().map_or(&[][..], Vec::as_slice) else { return file.to_vec() };
     if places.is_empty() {
         return file.to_vec();

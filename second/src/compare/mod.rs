@@ -4,6 +4,7 @@
 mod cases;
 mod driver;
 mod files;
+mod lock_counts;
 mod report;
 pub mod tasks;
 mod text_cases;
@@ -17,6 +18,8 @@ use crate::random::Random;
 use crate::reference::{Budgets, Means, Reference};
 use driver::{Batch, Driver};
 use report::{Case, Counts, Difference};
+
+pub use lock_counts::hopeless_facts;
 
 /// Bytes of requests that are gathered before they are sent.
 const BATCH: usize = 1 << 20;

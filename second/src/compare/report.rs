@@ -3,6 +3,7 @@
 use std::cmp::Ordering;
 use std::fmt;
 
+use super::lock_counts::LockCounts;
 use crate::file::{file_of, record_around};
 use crate::pddl::{read_domain, read_problem};
 use crate::protocol::{Call, Request, Response, CALLS};
@@ -84,7 +85,7 @@ fn hex(bytes: &[u8]) -> String {
     bytes.iter().map(|byte| format!("{byte:02x}")).collect::<Vec<_>>().join(" ")
 }
 
-const NUMBERS: usize = 18;
+const NUMBERS: usize = 19;
 const FIRST_NUMBERS: usize = 9;
 
 /// The refusals whose place may be within the record (02, request 2).
@@ -119,6 +120,7 @@ pub struct Counts {
     outside_layout: [usize; 4],
     /// First numbers of the rows of opened tables.
     rows: [usize; FIRST_NUMBERS],
+    pub locks: LockCounts,
 }
 
 fn index(call: Call) -> usize {
@@ -147,6 +149,7 @@ impl Counts {
         self.joined += (means == Means::Join) as usize;
         let number = number_of(expected);
         self.numbers[index(request.call)][number] += 1;
+        self.locks.take(request, expected);
         if number == Ground::OutsideLayout as usize {
             self.take_layout(request, expected.words[1] as usize);
         }
@@ -223,6 +226,7 @@ impl fmt::Display for Counts {
         writeln!(out, "texts refused 17, at their end, behind a good text, behind a digit, elsewhere: {places:?}")?;
         writeln!(out, "tasks put together again from their texts: {}", self.rebuilt)?;
         writeln!(out, "rows opened, by first number 0 to 8: {:?}", self.rows)?;
+        write!(out, "{}", self.locks)?;
         writeln!(out, "solves compared with joined rows only: {}", self.joined)?;
         writeln!(out, "fresh solves that equalled a session's list: {}", self.agreements)?;
         let Counts { tasks, files, edits, texts, answers, .. } = self;

@@ -1,19 +1,54 @@
 //! Random tasks of several families, whose answers stay cheap to enumerate; and malformed ones.
 
 use crate::random::Random;
-use crate::task::{has, with, Facts, Run, Task};
+use crate::repair::{Kind, Repair};
+use crate::task::{facts_in, has, with, Action, Facts, Run, Task};
 use crate::task::{HIGHEST_LIMIT, MOST_ACTIONS, MOST_FACTS, MOST_RUNS, MOST_STEPS, WORDS};
 
-/// A well-formed task of a random family.
+/// A well-formed task of a random family, about half of them with locks.
 pub fn random_task(random: &mut Random) -> Task {
-    match random.below(32) {
-        0..=17 => small(random),
+    let mut task = match random.below(32) {
+        0..=14 => small(random),
+        15..=17 => guarded(random),
         18..=20 => chain(random),
         21..=23 => long(random),
         24..=27 => slips(random),
         28..=29 => one_fact_at_the_edge(random),
         _ => without_steps(random),
+    };
+    if random.chance(9) {
+        put_locks(&mut task, random);
     }
+    task
+}
+
+/// Locks some of the needs, few or all. A locked need that a run's first step lacks makes the task hopeless, and so most
+/// tasks get none there: their locks change the list.
+pub fn put_locks(task: &mut Task, random: &mut Random) {
+    let density = random.pick(&[1, 4, 8, 14, 16]);
+    for action in &mut task.table[..task.actions] {
+        action.locks |= action.needs & some_facts(random, task.facts, density);
+    }
+    if random.chance(11) {
+        for run in &task.runs[..task.many] {
+            if let Some(&first) = run.steps().first() {
+                task.table[first as usize].locks &= run.start;
+            }
+        }
+    }
+}
+
+/// Some cell, as action and fact, of those that this set of each action lists; none if there is none.
+pub fn cell_in(task: &Task, set: fn(&Action) -> Facts, random: &mut Random) -> Option<(usize, usize)> {
+    let facts_of = |action: usize| facts_in(set(&task.table[action])).map(move |fact| (action, fact));
+    let cells: Vec<(usize, usize)> = (0..task.actions).flat_map(facts_of).collect();
+    (!cells.is_empty()).then(|| random.pick(&cells))
+}
+
+/// The number that drops some locked need; none if there is no lock.
+pub fn locked_drop(task: &Task, random: &mut Random) -> Option<u16> {
+    let (action, fact) = cell_in(task, |action| action.locks, random)?;
+    Some(Repair { kind: Kind::DropNeed, action, fact }.number())
 }
 
 /// How dense a set is, in sixteenths.
@@ -118,6 +153,30 @@ fn chain(random: &mut Random) -> Task {
         (0..length).for_each(|index| run.push_step((first + index) % actions));
         let more = random.below(4);
         random_steps(&mut run, actions, random, more);
+        run
+    });
+    task
+}
+
+/// One fact that a guard or two need again and again, and that another action deletes before each: dropping one need is
+/// shortest, and with the need locked, as in half of these, each delete has to be mended by itself.
+fn guarded(random: &mut Random) -> Task {
+    let guards = random.pick(&[1, 1, 1, 2]);
+    let actions = guards + random.between(2, 6);
+    let mut task = Task::sized(random.between(1, 2), actions, random.between(1, HIGHEST_LIMIT));
+    let locked = random.chance(8);
+    for (index, action) in task.table[..actions].iter_mut().enumerate() {
+        let (needing, deleting) = if index < guards { (15, 1) } else { (1, 14) };
+        action.needs = with(0, 0, random.chance(needing));
+        action.deletes = with(0, 0, random.chance(deleting));
+        action.locks = if locked { action.needs } else { 0 };
+    }
+    put_runs(&mut task, random, |_, random| {
+        let mut run = Run { start: random.chance(14) as Facts, goal: random.chance(2) as Facts, ..Run::empty() };
+        for _ in 0..random.between(2, 8) {
+            run.push_step(random.between(guards, actions - 1));
+            run.push_step(random.below(guards));
+        }
         run
     });
     task
@@ -244,11 +303,11 @@ fn without_steps(random: &mut Random) -> Task {
     task
 }
 
-/// The largest task there is: every cell, eight runs of 64 steps.
+/// The largest task there is: every cell, every lock, eight runs of 64 steps.
 pub fn full_task() -> Task {
     let mut task = Task::sized(MOST_FACTS, MOST_ACTIONS, HIGHEST_LIMIT);
     for action in &mut task.table {
-        (action.needs, action.adds, action.deletes) = (Facts::MAX, Facts::MAX, Facts::MAX);
+        *action = Action { needs: Facts::MAX, adds: Facts::MAX, deletes: Facts::MAX, locks: Facts::MAX };
     }
     task.many = MOST_RUNS;
     for run in &mut task.runs {
@@ -261,7 +320,8 @@ pub fn full_task() -> Task {
 /// Where in a task's words a thing stands.
 const LIMIT_WORD: usize = 2;
 const CELL_WORDS: usize = 3;
-const MANY_WORD: usize = CELL_WORDS + 3 * MOST_ACTIONS;
+const LOCK_WORDS: usize = CELL_WORDS + 3 * MOST_ACTIONS;
+const MANY_WORD: usize = LOCK_WORDS + MOST_ACTIONS;
 const START_WORDS: usize = MANY_WORD + 1;
 const GOAL_WORDS: usize = START_WORDS + MOST_RUNS;
 const COUNT_WORDS: usize = GOAL_WORDS + MOST_RUNS;
@@ -279,10 +339,10 @@ pub fn malformed(task: &Task, random: &mut Random) -> Vec<u64> {
         return words;
     }
     while Task::from_words(&words).well_formed() || random.chance(2) {
-        if random.chance(10) {
-            spoil_table(&mut words, task, random);
-        } else {
-            spoil_runs(&mut words, task, random);
+        match random.below(16) {
+            0..=7 => spoil_table(&mut words, task, random),
+            8..=10 => spoil_locks(&mut words, random),
+            _ => spoil_runs(&mut words, task, random),
         }
     }
     words
@@ -304,8 +364,19 @@ fn spoil_table(words: &mut [u64], task: &Task, random: &mut Random) {
         0 => words[0] = random.pick(&[0, MOST_FACTS as u64 + 1, 128, huge]),
         1 => words[1] = random.pick(&[0, MOST_ACTIONS as u64 + 1, 64, huge]),
         2 => words[LIMIT_WORD] = random.pick(&[HIGHEST_LIMIT as u64 + 1, huge]),
-        3 => words[CELL_WORDS + random.below(3 * MOST_ACTIONS)] |= stray(task, random),
-        _ => words[CELL_WORDS + random.below(3) * MOST_ACTIONS + random.below(MOST_ACTIONS)] |= 1,
+        3 => words[CELL_WORDS + random.below(4 * MOST_ACTIONS)] |= stray(task, random),
+        _ => words[CELL_WORDS + random.below(4) * MOST_ACTIONS + random.below(MOST_ACTIONS)] |= 1,
+    }
+}
+
+/// A lock on some cell, need or not, or some of an action's needs taken away, locked or not.
+fn spoil_locks(words: &mut [u64], random: &mut Random) {
+    let actions = random.pick(&[1, 4, MOST_ACTIONS]);
+    let action = random.below(actions);
+    let facts = words[0].clamp(1, MOST_FACTS as u64) as usize;
+    match random.below(2) {
+        0 => words[LOCK_WORDS + action] |= 1 << random.below(facts),
+        _ => words[CELL_WORDS + action] &= random.next(),
     }
 }
 
@@ -332,12 +403,14 @@ fn spoil_runs(words: &mut [u64], task: &Task, random: &mut Random) {
     }
 }
 
-/// A repair list for applying: mostly good, sometimes spoilt.
+/// A repair list for applying: mostly good, sometimes with a locked need dropped in its place, sometimes spoilt.
 pub fn repair_list(task: &Task, random: &mut Random) -> Vec<u16> {
     let permitted = crate::repair::all_permitted(task);
     let density = random.pick(&[1, 2, 8, 16]);
-    let mut list: Vec<u16> =
-        permitted.iter().filter(|_| random.chance(density)).map(crate::repair::Repair::number).collect();
+    let mut list: Vec<u16> = permitted.iter().filter(|_| random.chance(density)).map(Repair::number).collect();
+    if let Some(locked) = locked_drop(task, random).filter(|_| random.chance(6)) {
+        list.insert(list.partition_point(|&number| number < locked), locked);
+    }
     for _ in 0..random.pick(&[0, 0, 1, 1, 2]) {
         spoil_list(&mut list, random);
     }

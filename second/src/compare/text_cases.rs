@@ -73,7 +73,8 @@ fn write_texts(comparison: &mut Comparison, texts: &Texts, random: &mut Random) 
     Ok(())
 }
 
-/// Reads the texts and adds run to run, with a spoilt one between now and then: it must give the task again.
+/// Reads the texts and adds run to run, with a spoilt one between now and then: it must give the task again, without its
+/// locks. A run added to the task with its locks leaves them.
 fn put_together(comparison: &mut Comparison, texts: &Texts, random: &mut Random) -> Outcome<()> {
     let task = &texts.task;
     let facts = task.facts as u64;
@@ -85,14 +86,16 @@ fn put_together(comparison: &mut Comparison, texts: &Texts, random: &mut Random)
         let ends = read_problem(comparison, facts, problem.clone())?.words[2..].to_vec();
         words = ask(comparison, Call::AddRun, &[words, ends].concat(), run.steps().to_vec())?.words[2..].to_vec();
     }
-    if words != task.words() {
+    let wanted = task.unlocked().words();
+    if words != wanted {
         let again = request(Call::AddRun, &words, vec![]);
-        let expected = Response { words: task.words(), bytes: vec![] };
+        let expected = Response { words: wanted, bytes: vec![] };
         let why = "the reference's own texts give another task";
         return Err(End::Reference(Box::new(comparison.difference(again, expected, why))));
     }
     comparison.counts.rebuilt += 1;
     add_spoilt(comparison, &words, &task.runs[0], random)?;
+    add(comparison, &task.words(), &task.runs[0])?;
     limit_beside(comparison, texts, random)
 }
 

@@ -1,6 +1,6 @@
 //! Tasks for PDDL texts, and damage to the texts: bytes, numbers, lines, blocks, cuts and tails.
 
-use super::tasks::some_facts;
+use super::tasks::{put_locks, some_facts};
 use crate::random::Random;
 use crate::task::{
     only, with, Action, Facts, Run, Task, HIGHEST_LIMIT, MOST_ACTIONS, MOST_FACTS, MOST_RUNS, MOST_STEPS,
@@ -23,19 +23,22 @@ pub fn short_task(random: &mut Random) -> Task {
     task_of(random, Task::sized(facts, actions, 0), |random, facts| some_facts(random, facts, (16 / facts).min(8)))
 }
 
-/// The task with its sets filled by this function, and with steps.
+/// The task with its sets filled by this function, with steps, and half of them with locks.
 fn task_of(random: &mut Random, sized: Task, set: fn(&mut Random, usize) -> Facts) -> Task {
     let facts = sized.facts;
     let mut task = Task { limit: random.between(0, HIGHEST_LIMIT), ..sized };
     for action in &mut task.table[..sized.actions] {
         let [needs, adds, deletes] = [(); 3].map(|_| set(random, facts));
         let both = if random.chance(6) { adds & random.next() } else { 0 };
-        *action = Action { needs, adds, deletes: deletes | both };
+        *action = Action { needs, adds, deletes: deletes | both, locks: 0 };
     }
     for run in &mut task.runs[..sized.many] {
         *run = Run { start: set(random, facts), goal: set(random, facts), ..Run::empty() };
         let count = random.pick(&[0, 1, 5, MOST_STEPS - 1, MOST_STEPS]);
         (0..count).for_each(|_| run.push_step(random.below(sized.actions)));
+    }
+    if random.chance(8) {
+        put_locks(&mut task, random);
     }
     task
 }

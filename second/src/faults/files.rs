@@ -2,18 +2,18 @@
 
 use super::refused_with;
 use crate::drive::Broken;
-use crate::file::{bounds, order_breaks_at, record_around, records, Record, DELETE, NEED, RUN, STEP};
+use crate::file::{bounds, order_breaks_at, record_around, records, Record, RUN, STEP, TABLE_KINDS};
 use crate::protocol::{Call, Request, Response};
 use crate::task::{Task, MOST_RUNS, MOST_STEPS};
 
 /// The record that a read is refused for with this number, and before it the record that it follows.
-fn refused_record<'a>(request: &'a Request, right: &Response, number: u64) -> Option<[Record<'a>; 2]> {
+pub fn refused_record<'a>(request: &'a Request, right: &Response, number: u64) -> Option<[Record<'a>; 2]> {
     let refused = request.call == Call::Read && refused_with(right, number);
     refused.then(|| record_around(&request.bytes, right.words[1] as usize)).flatten()
 }
 
 /// A read that passes this record over.
-fn read_without(broken: &mut Broken, request: &Request, record: &Record) -> Response {
+pub fn read_without(broken: &mut Broken, request: &Request, record: &Record) -> Response {
     let bytes = [&request.bytes[..record.place()], &request.bytes[record.next..]].concat();
     let mut response = broken.right(&Request { bytes, ..request.clone() });
     if !refused_with(&response, 0) {
@@ -23,12 +23,12 @@ fn read_without(broken: &mut Broken, request: &Request, record: &Record) -> Resp
 }
 
 /// True if the place is in a further run.
-fn in_further_run(file: &[u8], place: usize) -> bool {
+pub fn in_further_run(file: &[u8], place: usize) -> bool {
     records(file).iter().any(|record| record.kind == RUN && record.place() < place)
 }
 
 fn table_kind_in_further_run(request: &Request, record: &Record) -> bool {
-    (NEED..=DELETE).contains(&record.kind) && in_further_run(&request.bytes, record.place())
+    TABLE_KINDS.contains(&record.kind) && in_further_run(&request.bytes, record.place())
 }
 
 /// Bodies that are equal count as ascending.
@@ -95,7 +95,7 @@ fn nth_of_kind(records: &[Record], kind: u8, n: usize) -> Option<usize> {
 }
 
 /// A refused read.
-fn refused_read(number: u64, place: usize) -> Response {
+pub fn refused_read(number: u64, place: usize) -> Response {
     let words = [&[number, place as u64][..], &Task::zeros().words()].concat();
     Response { words, bytes: vec![] }
 }
@@ -115,7 +115,8 @@ pub fn order_not_begun_anew(_: &mut Broken, request: &Request, right: Response) 
     }
     let mut records = records(&request.bytes);
     records.retain(|record| record.kind != RUN);
-    match records.windows(2).find(|pair| pair[1].kind < pair[0].kind) {
+    let goes_down = |pair: &&[Record]| order_breaks_at(&pair[0], &pair[1], false) == Some(pair[1].place());
+    match records.windows(2).find(goes_down) {
         Some(pair) => refused_read(6, pair[1].place()),
         None => right,
     }
@@ -181,7 +182,9 @@ pub fn outside_at_the_last_number(_: &mut Broken, request: &Request, right: Resp
 /// 6 of a kind that goes down is at the first byte of its body.
 pub fn kind_at_its_body(_: &mut Broken, request: &Request, right: Response) -> Response {
     match refused_record(request, &right, 6) {
-        Some([last, record]) if record.kind < last.kind && last.kind != RUN => refused_read(6, record.start),
+        Some([last, record]) if order_breaks_at(&last, &record, false) == Some(record.place()) => {
+            refused_read(6, record.start)
+        }
         _ => right,
     }
 }

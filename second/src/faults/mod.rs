@@ -1,8 +1,12 @@
 //! Deliberate faults for the self-driver, among them 01's "errors that look right", those of several runs, of the places
-//! of 5 and 6, of a step that can't run and of PDDL texts (02, requests 1 to 4): the comparison must find each.
+//! of 5 and 6, of a step that can't run, of PDDL texts and of locks (02, requests 1 to 4 and 6): the comparison must find
+//! each.
 
 mod checks;
 mod files;
+mod lock_edits;
+mod lock_files;
+mod locks;
 mod texts;
 
 use crate::answer::Budget;
@@ -17,8 +21,9 @@ use crate::task::{Run, Task, MOST_RUNS, WORDS};
 /// A fault makes a wrong response of a request and the right response.
 pub type Fault = fn(&mut Broken, &Request, Response) -> Response;
 
-/// The faults by name. Those of PDDL texts are called pddl-.., and need no other cases to be found.
-pub const FAULTS: [(&str, Fault); 78] = [
+/// The faults by name. Those of PDDL texts are called pddl-.. and those of edits that meet locks lock-edit-..: each of these
+/// is found in such cases alone.
+pub const FAULTS: &[(&str, Fault)] = &[
     ("limit-below", limit_below),
     ("equal-neighbours", files::equal_neighbours),
     ("range-after-order", files::range_after_order),
@@ -36,7 +41,7 @@ pub const FAULTS: [(&str, Fault); 78] = [
     ("refused-solve-writes", refused_solve_writes),
     ("refused-gives-zeros", refused_gives_zeros),
     ("refused-gives-its-reading", refused_gives_its_reading),
-    ("refused-gives-636-words", refused_gives_636_words),
+    ("refused-gives-668-words", refused_gives_668_words),
     ("row-six-is-seven", row_six_is_seven),
     ("longer-table", longer_table),
     ("stale-row", stale_row),
@@ -71,6 +76,45 @@ pub const FAULTS: [(&str, Fault); 78] = [
     ("goals-by-the-old-rule", checks::goals_by_the_old_rule),
     ("step-after-is-skipped", checks::step_after_is_skipped),
     ("listing-by-the-old-rule", listing_by_the_old_rule),
+    ("first-24000-bytes", first_24000_bytes),
+    ("locks-not-in-applying", locks::not_in_applying),
+    ("locks-not-in-form", locks::not_in_form),
+    ("locks-not-in-solving", locks::not_in_solving),
+    ("locks-not-in-rows", locks::not_in_rows),
+    ("locks-offered-by-conflicts", locks::offered_by_conflicts),
+    ("locks-dropped-by-the-fullest", locks::dropped_by_the_fullest),
+    ("locks-eight-only-without-steps", locks::eight_only_without_steps),
+    ("locks-hopeless-at-any-step", locks::hopeless_at_any_step),
+    ("locks-not-in-the-listing", locks::not_in_the_listing),
+    ("locks-bar-the-whole-cell", locks::bars_the_whole_cell),
+    ("locks-bar-the-fact", locks::bars_the_fact),
+    ("locks-taken-off-by-applying", locks::taken_off_by_applying),
+    ("locks-well-formed-anywhere", locks::well_formed_anywhere),
+    ("locks-unchecked", locks::unchecked),
+    ("lock-edit-before-outside", lock_edits::before_outside),
+    ("lock-edit-before-the-length", lock_edits::before_the_length),
+    ("lock-edit-need-cleared-under", lock_edits::need_cleared_under),
+    ("lock-edit-goes-with-its-need", lock_edits::goes_with_its_need),
+    ("lock-edit-set-on-no-need", lock_edits::set_on_no_need),
+    ("lock-edit-brings-its-need", lock_edits::brings_its_need),
+    ("lock-edit-leaves-the-row", lock_edits::leaves_the_row),
+    ("lock-edit-not-in-the-row", lock_edits::not_in_the_row),
+    ("lock-edit-nothing-to-clear", lock_edits::nothing_to_clear),
+    ("lock-edit-need-set-under", lock_edits::need_set_under),
+    ("lock-edit-kept-when-cleared", lock_edits::kept_when_cleared),
+    ("lock-edit-no-such-kind", lock_edits::no_such_kind),
+    ("lock-edit-any-further-kind", lock_edits::any_further_kind),
+    ("lock-file-unknown-kind", lock_files::unknown_kind),
+    ("lock-file-in-further-runs", lock_files::in_further_runs),
+    ("lock-file-after-steps", lock_files::after_steps),
+    ("lock-file-kinds-by-number", lock_files::kinds_by_number),
+    ("lock-file-not-ascending", lock_files::not_ascending),
+    ("lock-file-on-no-need", lock_files::on_no_need),
+    ("lock-file-on-no-need-passed-over", lock_files::on_no_need_passed_over),
+    ("lock-file-before-order", lock_files::before_order),
+    ("lock-file-at-the-number", lock_files::at_the_number),
+    ("lock-file-unwritten", lock_files::unwritten),
+    ("lock-file-written-by-number", lock_files::written_by_number),
     ("pddl-delete-of-an-add", texts::delete_of_an_add),
     ("pddl-deletes-before-adds", texts::deletes_before_adds),
     ("pddl-descending", texts::descending),
@@ -97,6 +141,10 @@ pub const FAULTS: [(&str, Fault); 78] = [
     ("pddl-ninth-for-the-eighth", texts::ninth_for_the_eighth),
     ("pddl-steps-cut", texts::steps_cut),
     ("pddl-facts-outside-dropped", texts::facts_outside_dropped),
+    ("pddl-without-locked-needs", locks::left_out_of_the_domain),
+    ("pddl-written-though-malformed", locks::written_though_malformed),
+    ("pddl-needs-read-as-locked", locks::read_from_a_domain),
+    ("pddl-run-takes-locks-off", locks::taken_off_by_a_run),
 ];
 
 fn task_of(request: &Request) -> Option<Task> {
@@ -105,6 +153,13 @@ fn task_of(request: &Request) -> Option<Task> {
 
 fn refused_with(response: &Response, number: u64) -> bool {
     response.words.first() == Some(&number)
+}
+
+/// The response with this task in place of the one that it gives back.
+fn with_words_of(task: &Task, mut right: Response) -> Response {
+    right.words.truncate(2);
+    right.words.extend(task.words());
+    right
 }
 
 /// The limit compared with < instead of <=.
@@ -185,8 +240,8 @@ fn refused_gives_its_reading(_: &mut Broken, request: &Request, mut right: Respo
     right
 }
 
-/// A refused edit or applying of another number of words gives the 636 words of the task of zeros.
-fn refused_gives_636_words(_: &mut Broken, request: &Request, mut right: Response) -> Response {
+/// A refused edit or applying of another number of words gives the 668 words of the task of zeros.
+fn refused_gives_668_words(_: &mut Broken, request: &Request, mut right: Response) -> Response {
     if [Call::Edit, Call::Apply].contains(&request.call) && right.words.len() != 2 + WORDS {
         right.words.truncate(2);
         right.words.extend(Task::zeros().words());
@@ -252,12 +307,17 @@ fn later_edits_echo(broken: &mut Broken, request: &Request, right: Response) -> 
 
 /// An edit outside is refused with 14 even where its table has a wrong length.
 fn outside_before_length(broken: &mut Broken, request: &Request, right: Response) -> Response {
+    before_length(broken, request, right, 14)
+}
+
+/// An edit that this number refuses is refused with it even where its table has a wrong length.
+fn before_length(broken: &mut Broken, request: &Request, right: Response, number: u64) -> Response {
     if request.call != Call::Edit || !refused_with(&right, 13) {
         return right;
     }
     let bytes = vec![0; 2 * TABLE];
     let mut response = broken.right(&Request { bytes, ..request.clone() });
-    if !refused_with(&response, 14) {
+    if !refused_with(&response, number) {
         return right;
     }
     response.bytes = request.bytes.clone();
@@ -311,9 +371,14 @@ fn rows_of_the_first_run(broken: &mut Broken, request: &Request, right: Response
     }
 }
 
+/// True if the request is an edit of a start or a goal.
+fn edits_a_run(request: &Request) -> bool {
+    request.call == Call::Edit && [3, 4].contains(&request.more_words()[0])
+}
+
 /// A start or goal edit changes the first run, whichever it names.
 fn edits_of_the_first_run(broken: &mut Broken, request: &Request, right: Response) -> Response {
-    if request.call != Call::Edit || !refused_with(&right, 0) || request.more_words()[0] < 3 {
+    if !edits_a_run(request) || !refused_with(&right, 0) {
         return right;
     }
     let mut words = request.words.clone();
@@ -326,7 +391,7 @@ fn edits_of_the_first_run(broken: &mut Broken, request: &Request, right: Respons
 fn edit_opens_a_run(broken: &mut Broken, request: &Request, right: Response) -> Response {
     let Some(mut task) = task_of(request) else { return right };
     let next = task.many as u64;
-    let names_next = request.call == Call::Edit && request.more_words()[0] >= 3 && request.more_words()[1] == next;
+    let names_next = edits_a_run(request) && request.more_words()[1] == next;
     if !names_next || !refused_with(&right, 14) || task.many == MOST_RUNS {
         return right;
     }
@@ -358,6 +423,14 @@ fn steps_of_the_first_run(_: &mut Broken, request: &Request, right: Response) ->
     let first = format!("task {} {} {} {}\n", task.facts, task.actions, task.limit, task.runs[0].count);
     let rest = without_lines(&right, |(index, _)| *index > 0);
     Response { words: vec![], bytes: [first.into_bytes(), rest.bytes].concat() }
+}
+
+/// The program's buffer is still the one that it had before there were locks.
+fn first_24000_bytes(broken: &mut Broken, request: &Request, right: Response) -> Response {
+    if request.call != Call::Listing || request.bytes.len() <= 24_000 {
+        return right;
+    }
+    broken.right(&Request { bytes: request.bytes[..24_000].to_vec(), ..request.clone() })
 }
 
 /// The listing's open lines still follow the old rule.

@@ -1,7 +1,7 @@
 //! Deliberate faults of the PDDL texts (02, request 4): what is written, where 17 is, which sizes are looked at, and a
 //! run more.
 
-use super::{refused_with, task_of};
+use super::{refused_with, task_of, with_words_of};
 use crate::drive::Broken;
 use crate::pddl::domain_text;
 use crate::protocol::{Call, Request, Response};
@@ -266,11 +266,6 @@ fn added(request: &Request, right: &Response) -> Option<Task> {
 fn not_added(request: &Request, right: &Response) -> Option<Task> {
     let refused = request.call == Call::AddRun && refused_with(right, 12) && right.words.len() == 2 + WORDS;
     refused.then(|| Task::from_words(&right.words[2..]))
-}
-
-fn with_words_of(task: &Task, mut right: Response) -> Response {
-    right.words[2..].copy_from_slice(&task.words());
-    right
 }
 
 /// The new run comes first.

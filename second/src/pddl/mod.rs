@@ -1,5 +1,5 @@
 //! A table and its runs as PDDL texts (02, request 4; the layout is docs/PDDL.md): written, read, and the task put
-//! together again.
+//! together again, without its locks: "the PDDL texts don't carry locks" (02, request 6).
 
 mod layout;
 mod reader;

@@ -22,7 +22,7 @@ fn texts_of_the_page() -> Vec<String> {
 #[test]
 fn the_page_shows_what_is_written() {
     let mut task = Task::sized(3, 1, 0);
-    task.table[0] = Action { needs: 0b101, adds: 0b010, deletes: 0b001 };
+    task.table[0] = Action { needs: 0b101, adds: 0b010, deletes: 0b001, locks: 0b100 };
     (task.runs[0].start, task.runs[0].goal) = (0b001, 0b110);
     let written = [domain_text(&task), problem_text(&task.runs[0])];
     assert_eq!(written.map(|text| String::from_utf8(text).unwrap()).to_vec(), texts_of_the_page());
@@ -129,7 +129,7 @@ fn domain_of(facts: usize, codes: &[u64]) -> Vec<u8> {
     let mask = (1 << facts) - 1;
     for (action, code) in task.table.iter_mut().zip(codes) {
         let [needs, adds, deletes] = [0, 1, 2].map(|set| code >> (set * facts) & mask);
-        *action = Action { needs, adds, deletes };
+        *action = Action { needs, adds, deletes, locks: 0 };
     }
     domain_text(&task)
 }
@@ -252,10 +252,15 @@ fn refusals_of_a_run_more() {
     let mut unused = task;
     unused.runs[2].goal = 1;
     assert_not_added(unused, 0, 0, &[]);
+    let mut locked = task;
+    locked.table[1].locks = 1;
+    assert_not_added(locked, 0, 0, &[]);
+    locked.table[1].needs = 1;
+    assert_eq!(add_run(&locked, 0, 0, &[]).map(|more| more.table), Ok(locked.table), "a run more leaves the locks");
 }
 
 #[test]
-fn every_task_comes_back_from_its_texts() {
+fn every_task_comes_back_from_its_texts_without_its_locks() {
     let mut random = Random::new(2026);
     let mut tasks = vec![full_task()];
     for _ in 0..300 {
@@ -268,7 +273,7 @@ fn every_task_comes_back_from_its_texts() {
             let (start, goal) = read_problem(&problem_text(run), task.facts as u64).unwrap();
             again = add_run(&again, start, goal, run.steps()).unwrap();
         }
-        assert_eq!(again, task);
+        assert_eq!(again, task.unlocked());
     }
 }
 
