@@ -1,4 +1,4 @@
--- What is accepted is well formed, and its file fits in the room. Assumes nothing.
+-- What is accepted is well formed and has no lock, and its file fits in the room. Assumes nothing.
 use mathlib.Core.Bool.{Bool, true, false, cond, _&&_}
 use mathlib.Core.List.{List, _++_}
 use mathlib.Core.Path.{_≡_, refl, sym, ap, _∙_, subst}
@@ -6,7 +6,7 @@ use Prim.Native.Nat.{ℕ, _+_, _<_, _≤_}
 use native.Mathlib.Omega.{arith}
 use borrow.Author.Tests.{eqb-true, eqb-false}
 use lib.Dec.{eqb}
-use lib.ListN.{length, drop, length-append}
+use lib.ListN.{length, drop, replicate, length-append}
 use Rattle.addrun.proofs.AddingLaws.{added-well}
 use Rattle.addrun.specs.Adding.{withRun, runAdded}
 use Rattle.pddl.specs.Readings.{ReadsDomain, domain, outside}
@@ -14,6 +14,7 @@ use Rattle.table.proofs.FlagLaws.{and-right, cond-by}
 use Rattle.table.proofs.Formation.{well-formed}
 use Rattle.table.specs.Outcomes.{Outcome}
 use Rattle.table.specs.Refusals.{accepted, notWellFormed}
+use Rattle.table.specs.Sizes.{maxActions}
 use Rattle.table.specs.Tasks.{formed, Shaped, WellFormed}
 use Rattle.table.specs.declared.Task.{Task}
 use Rattle.table.specs.declared.TaskReply.{TaskReply}
@@ -29,10 +30,11 @@ use Rattle.frompddl.specs.Gathering.{NextRun, Gathers, last, ninth, wron
 use Rattle.frompddl.specs.Together.{unless, answerOf, PutsTogether, HoldsFile}
 use Rattle.frompddl.specs.declared.gather.Gathered.{Gathered}
 
--- ---- a task with its runs so far: as soon as it has one, it is well formed
+-- ---- a task with its runs so far: it has no lock (02, request 6), and as soon as it has a run, it is well formed
 
 record Sound (t : Task) : Type 0 where
   shaped : Shaped t
+  no-lock : t .table .locks ≡ replicate maxActions 0
   well : 0 < t .runs .many → WellFormed t
 
 with-one : (t : Task) (start goal : ℕ) (steps : List ℕ) → Shaped t → formed (withRun t start goal steps) ≡ true
@@ -41,10 +43,10 @@ unfolding runAdded
 with-one t start goal steps s h = (rw h at (added-well t start goal steps s)) refl
 
 added-sound : (t : Task) (start goal : ℕ) (steps : List ℕ) → Sound t → Sound (runAdded t start goal steps .task)
-unfolding runAdded
+unfolding runAdded withRun
 added-sound t start goal steps g =
     cond-by (λ (r : TaskReply). Sound (r .task)) (formed (withRun t start goal steps))
-    (λ h. let w = with-one t start goal steps (g .shaped) h in record { shaped = w .shaped; well = λ _. w }) (λ _. g)
+    (λ h. let w = with-one t start goal steps (g .shaped) h in record { shaped = w .shaped; no-lock = g .no-lock; well = λ _. w }) (λ _. g)
 
 domain-sound : {s : List ℕ} {limit : ℕ} {r : TaskReply} → ReadsDomain s limit r → r .number ≡ accepted → Sound (r .task)
 domain-sound (domain t fits text e) ok =
@@ -53,11 +55,13 @@ domain-sound (domain t fits text e) ok =
         needs = fits .needs;
         adds = fits .adds;
         deletes = fits .deletes;
+        locks = refl;
         starts = refl;
         goals = refl;
         counts = refl;
         steps = refl;
       };
+      no-lock = refl;
       well = λ some. absurd (omega arith);
     })
 domain-sound (outside n none far e) ok = absurd (omega (arith, ap (λ (r : TaskReply). r .number) e))
@@ -91,9 +95,9 @@ matched-task : (b : Bool) (t : Task)
 matched-task true t ok = (refl, refl)
 matched-task false t ok = absurd (omega arith)
 
-pub puts-well : {s : List ℕ} {r : TaskReply} → PutsTogether s r → r .number ≡ accepted → WellFormed (r .task)
+puts-sound : {s : List ℕ} {r : TaskReply} → PutsTogether s r → r .number ≡ accepted → Sound (r .task) × (0 < r .task .runs .many)
 unfolding answerOf
-puts-well {s} {r} p ok =
+puts-sound {s} {r} p ok =
     let runs = p .runs in
     let many = p .file .task .runs .many in
     let start = ap (λ (q : TaskReply). q .number) (p .answer) in
@@ -107,7 +111,14 @@ puts-well {s} {r} p ok =
     let same = eqb-true (runs .task .runs .many) many (and-right (eqb (runs .texts) many) (eqb (runs .task .runs .many) many) (m .0)) in
     let file = accepted-file (p .file-read) (f .0) .0 in
     let is = ap (λ (q : TaskReply). q .task) (p .answer ∙ d .1 ∙ g .1 ∙ f .1 ∙ m .1) in
-    subst WellFormed (sym is) (sound .well (omega (arith, same, file .many-low)))
+    subst (λ (t : Task). Sound t × (0 < t .runs .many)) (sym is) (sound, omega (arith, same, file .many-low))
+
+pub puts-well : {s : List ℕ} {r : TaskReply} → PutsTogether s r → r .number ≡ accepted → WellFormed (r .task)
+puts-well p ok = let sound = puts-sound p ok in sound .0 .well (sound .1)
+
+-- The locks of the task file behind the texts are not taken.
+pub puts-no-lock : {s : List ℕ} {r : TaskReply} → PutsTogether s r → r .number ≡ accepted → r .task .table .locks ≡ replicate maxActions 0
+puts-no-lock p ok = puts-sound p ok .0 .no-lock
 
 -- ---- its file in the room
 

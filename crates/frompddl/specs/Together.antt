@@ -31,7 +31,8 @@ answerOf domain runs file place =
     many : ℕ
     many = file .task .runs .many
 
--- r is what the input comes to. The domain text stands first, and the task file behind the last text; the limit is that of the task file.
+-- r is what the input comes to. The domain text stands first, and the task file behind the last text; the limit is that of the task file. Its
+-- locks are not taken (02, request 6).
 pub record PutsTogether (s : List ℕ) (r : TaskReply) : Type 0 where
   pub start : ℕ
   pub behind : TextsEnd s start (textEnd s 0)
