@@ -82,7 +82,7 @@ repairs-repaired {r = r} (solved read o reads fine solves got a taken) ok =
       valid = applied-valid (read .task) (listIn o) (r .task) is (g .answer .member);
     }
 
--- The first 24,000 bytes decide it: "later bytes can't alter its answer" (document 01, "The listing").
+-- The first 28,000 bytes decide it: "later bytes can't alter its answer" (document 01, "The listing").
 alike : {s other : List ℕ} → ((r : TaskReply) → ReadsFile s r → ReadsFile other r) → {r : TaskReply} → Repairs s r → Repairs other r
 alike same {r} (unread reads bad) = unread (same r reads) bad
 alike same (unsolved read o reads fine solves bad e) = unsolved read o (same read reads) fine solves bad e
