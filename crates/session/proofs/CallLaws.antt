@@ -7,21 +7,21 @@ use Prim.Native.Nat.{ℕ, _<_}
 use native.Mathlib.Omega.{arith}
 use lib.Dec.{eqb, ltb}
 use lib.ListN.{length}
-use borrow.Author.Tests.{eq-eqb, ne-eqb, eqb-true, ltb-true, not-false}
+use borrow.Author.Tests.{eq-eqb, ne-eqb, eqb-true, ltb-true, not-true, not-false}
 use Rattle.change.proofs.EditLaws.{edited-exactly, edited-only}
-use Rattle.change.specs.Editing.{edited, cellFact, cellInside, EditedTo}
+use Rattle.change.specs.Editing.{edited, cellFact, cellInside, leavesLock, accepts, EditedTo}
 use Rattle.change.specs.declared.Cell.{Cell}
-use Rattle.change.specs.declared.Cell.the-variants.{Need, Add, Delete, Start, Goal}
+use Rattle.change.specs.declared.Cell.the-variants.{Need, Add, Delete, Start, Goal, Lock}
 use Rattle.change.specs.declared.Edit.{Edit}
 use Rattle.rows.proofs.TableLaws.{filled-stored, stored-unique, rewritten-unique}
 use Rattle.solve.specs.Solving.{told}
 use Rattle.table.specs.Outcomes.{refused}
 use Rattle.rows.specs.Tables.{verdictAt, Stored, Filled, Rewritten}
-use Rattle.table.proofs.FlagLaws.{and-right}
+use Rattle.table.proofs.FlagLaws.{both, and-both, and-left, and-right}
 use Rattle.table.proofs.Formation.{well-formed}
 use Rattle.table.proofs.RefusalLaws.{silent}
 use Rattle.table.proofs.ReplyLaws.{one-answer}
-use Rattle.table.specs.Refusals.{Refusal, firstOf, refuse, none, accepted, notWellFormed, notASession, notThere}
+use Rattle.table.specs.Refusals.{Refusal, firstOf, refuse, none, accepted, notWellFormed, notASession, notThere, lockWithoutNeed}
 use Rattle.table.specs.Join.{joinVerdicts}
 use Rattle.table.specs.Sizes.{sessionPlaces}
 use Rattle.table.specs.Tasks.{WellFormed, formed}
@@ -63,19 +63,27 @@ module _ (t : Task) (s : List ℕ) where
     unfolding editRefusal firstOf
     edit-outside h n o = rw (h, eq-eqb (length s) sessionPlaces n, o)
 
-    pub edit-clear : formed t ≡ true → length s ≡ sessionPlaces → cellInside t (e .cell) ≡ true → editRefusal t s e ≡ none
+    -- "a lock set on a cell that isn't a need, or a need cleared under a lock" (02, request 6)
+    pub edit-locked : formed t ≡ true → length s ≡ sessionPlaces → cellInside t (e .cell) ≡ true → leavesLock t e ≡ true
+        → editRefusal t s e ≡ at-zero lockWithoutNeed
     unfolding editRefusal firstOf
-    edit-clear h n o = rw (h, eq-eqb (length s) sessionPlaces n, o)
+    edit-locked h n o l = rw (h, eq-eqb (length s) sessionPlaces n, o, l)
 
-    pub edit-accepted : editRefusal t s e .number ≡ accepted → (formed t ≡ true) × (length s ≡ sessionPlaces) × (cellInside t (e .cell) ≡ true)
+    pub edit-clear : formed t ≡ true → length s ≡ sessionPlaces → accepts t e ≡ true → editRefusal t s e ≡ none
+    unfolding editRefusal firstOf
+    edit-clear h n a =
+        let p = both (cellInside t (e .cell)) (not (leavesLock t e)) a in
+        rw (h, eq-eqb (length s) sessionPlaces n, p .0, not-true (leavesLock t e) (p .1))
+
+    pub edit-accepted : editRefusal t s e .number ≡ accepted → (formed t ≡ true) × (length s ≡ sessionPlaces) × (accepts t e ≡ true)
     unfolding editRefusal
     edit-accepted h =
         let p = silent
         (refuse (not (formed t)) notWellFormed ∷ refuse (not (eqb (length s) sessionPlaces)) notASession ∷
-        refuse (not (cellInside t (e .cell))) notThere ∷ []) (omega arith) h in (
+        refuse (not (cellInside t (e .cell))) notThere ∷ refuse (leavesLock t e) lockWithoutNeed ∷ []) (omega arith) h in (
           not-false (formed t) (p .0),
           eqb-true (length s) sessionPlaces (not-false (eqb (length s) sessionPlaces) (p .1 .0)),
-          not-false (cellInside t (e .cell)) (p .1 .1 .0),
+          and-both (cellInside t (e .cell)) (not (leavesLock t e)) (not-false (cellInside t (e .cell)) (p .1 .1 .0)) (ap not (p .1 .1 .1 .0)),
         )
 
 -- ---- what each way out of a call promises
@@ -106,7 +114,7 @@ module _ (t : Task) (s : List ℕ) where
     accepted = λ k. absurd (omega arith);
   }
 
-  pub edits-done : (e : Edit) → WellFormed t → length s ≡ sessionPlaces → cellInside t (e .cell) ≡ true → {u : Task} {f : ℕ} {after : List ℕ}
+  pub edits-done : (e : Edit) → WellFormed t → length s ≡ sessionPlaces → accepts t e ≡ true → {u : Task} {f : ℕ} {after : List ℕ}
       → u ≡ edited t e → f ≡ cellFact (e .cell) → Rewritten u f s after → Edits t s e (record { number = accepted; place = 0; task = u }) after
   edits-done e w n o {u} {f} {after} made fact row =
       let clear = edit-clear t s e (well-formed t w) n o in
@@ -114,7 +122,7 @@ module _ (t : Task) (s : List ℕ) where
         number = ap (λ (r : Refusal). r .number) (sym clear);
         place = ap (λ (r : Refusal). r .place) (sym clear);
         refused = λ k. absurd (k refl);
-        accepted = λ k. (subst (EditedTo t e) (sym made) (edited-exactly t e w o), subst (λ (g : ℕ). Rewritten u g s after) fact row);
+        accepted = λ k. (subst (EditedTo t e) (sym made) (edited-exactly t e w (and-left (cellInside t (e .cell)) (not (leavesLock t e)) o)), subst (λ (g : ℕ). Rewritten u g s after) fact row);
       }
 
 of-fact : (t : Task) (f : ℕ) (b : Bool) → (b && ltb f (t .table .facts)) ≡ true → f < t .table .facts
@@ -128,6 +136,7 @@ inside-low t (Add a f) h = of-fact t f (ltb a (t .table .actions)) h
 inside-low t (Delete a f) h = of-fact t f (ltb a (t .table .actions)) h
 inside-low t (Start r f) h = of-fact t f (ltb r (t .runs .many)) h
 inside-low t (Goal r f) h = of-fact t f (ltb r (t .runs .many)) h
+inside-low t (Lock a f) h = of-fact t f (ltb a (t .table .actions)) h
 
 pub edited-low : (t : Task) (e : Edit) → WellFormed t → cellInside t (e .cell) ≡ true → {u : Task} {f : ℕ} → u ≡ edited t e → f ≡ cellFact (e .cell)
     → f < u .table .facts
@@ -177,11 +186,12 @@ edits-unique t s e r q after other a b =
     λ i. (task i, table i)) (a .refused) (b .refused) (a .accepted) (b .accepted) in
     ((λ i. record { number = number i; place = place i; task = rest i .0 }), (λ i. rest i .1))
 
--- The same of the task that the accepted edits make.
-pub made-unique : (t : Task) (es : List Edit) (u v : Task) → Made t es u → Made t es v → u ≡ v
-made-unique t [] u v made-none made-none = refl
-made-unique t (e ∷ es) u v (made-set {q = q} i d rest) (made-set {q = p} j b more) =
-    made-unique q es u v rest (subst (λ (x : Task). Made x es v) (edited-only t e p q b d) more)
-made-unique t (e ∷ es) u v (made-set i d rest) (made-refused j more) = absurd (false≢true (sym j ∙ i))
-made-unique t (e ∷ es) u v (made-refused i rest) (made-set j b more) = absurd (false≢true (sym i ∙ j))
-made-unique t (e ∷ es) u v (made-refused i rest) (made-refused j more) = made-unique t es u v rest more
+-- The same of the facts that the accepted edits name, and of the task that they make.
+pub made-unique : (t : Task) (es : List Edit) (fs gs : List ℕ) (u v : Task) → Made t es fs u → Made t es gs v → (fs ≡ gs) × (u ≡ v)
+made-unique t [] fs gs u v made-none made-none = (refl, refl)
+made-unique t (e ∷ es) fs gs u v (made-set {q = q} {fs = xs} i d rest) (made-set {q = p} {fs = ys} j b more) =
+    let same = made-unique q es xs ys u v rest (subst (λ (x : Task). Made x es ys v) (edited-only t e p q b d) more) in
+    (ap (λ (l : List ℕ). cellFact (e .cell) ∷ l) (same .0), same .1)
+made-unique t (e ∷ es) fs gs u v (made-set i d rest) (made-refused j more) = absurd (false≢true (sym j ∙ i))
+made-unique t (e ∷ es) fs gs u v (made-refused i rest) (made-set j b more) = absurd (false≢true (sym i ∙ j))
+made-unique t (e ∷ es) fs gs u v (made-refused i rest) (made-refused j more) = made-unique t es fs gs u v rest more

@@ -1,18 +1,15 @@
 -- Demand 3: "I could not test an edited table without solving all of it again." Whatever is edited after opening, listing says what a
 -- fresh solve of the edited task would say, and the rows that no edit named are as opening wrote them. From the calls' contracts alone,
 -- by induction over the edits. Assumes nothing.
-use mathlib.Core.Bool.{Bool, true, false, _&&_}
+use mathlib.Core.Bool.{Bool, true, false, false≢true}
 use mathlib.Core.List.{List, [], _∷_}
 use mathlib.Core.Path.{_≡_, refl, sym, ap, _∙_, subst}
 use Prim.Native.Nat.{ℕ, _<_}
-use native.Mathlib.Omega.{arith}
 use lib.Dec.{eqb}
 use lib.ListN.{length}
 use borrow.Author.Tests.{eqb-true, eqb-false}
 use Rattle.change.proofs.EditLaws.{edited-well, keeps-elsewhere, keeps-elsewhere-back}
-use Rattle.change.specs.Editing.{cellFact, cellInside, EditedTo}
-use Rattle.change.specs.declared.Cell.{Cell}
-use Rattle.change.specs.declared.Cell.the-variants.{Need, Add, Delete, Start, Goal}
+use Rattle.change.specs.Editing.{cellFact, accepts, EditedTo}
 use Rattle.change.specs.declared.Edit.{Edit}
 use Rattle.search.specs.Rows.{RightRow}
 use Rattle.solve.proofs.SolveLaws.{solves-told, solve-unique}
@@ -22,14 +19,15 @@ use Rattle.rows.specs.Tables.{rowAt, Stored, Rewritten}
 use Rattle.table.proofs.AnswerLaws.{within-same}
 use Rattle.table.proofs.FlagLaws.{or-neither}
 use Rattle.table.proofs.Formation.{well-formed}
+use Rattle.table.specs.Order.{isIn}
 use Rattle.table.specs.Refusals.{accepted}
 use Rattle.table.specs.Sizes.{maxFacts, maxRow, sessionPlaces}
 use Rattle.table.specs.Tasks.{KeepsFor, WellFormed}
 use Rattle.table.specs.declared.Reply.{Reply}
 use Rattle.table.specs.declared.Task.{Task}
-use Rattle.session.proofs.CallLaws.{open-clear, edit-clear, edit-outside}
+use Rattle.session.proofs.CallLaws.{open-clear, edit-clear, edit-accepted}
 use Rattle.session.proofs.FormLaws.{stored-in-form}
-use Rattle.session.specs.Calls.{Opens, listed, Story, told-all, then, Made, made-none, made-set, made-refused, names}
+use Rattle.session.specs.Calls.{Opens, listed, Story, told-all, then, Made, made-none, made-set, made-refused}
 use Rattle.table.specs.declared.TaskReply.{TaskReply}
 
 -- ---- one edit keeps every row right
@@ -57,76 +55,56 @@ module _ (t : Task) (e : Edit) (q : Task) (d : EditedTo t e q) where
           let other = eqb-false g (cellFact (e .cell)) apart in
           subst (λ (row : List ℕ). RightRow q g row) (sym (r .others g h other)) (row-elsewhere g other (rowAt s g) (b .rows g h))
 
--- ---- which facts the accepted edits name
-
--- Whether a cell is inside, and so which facts are named, depends on the sizes alone, and an edit leaves those alone.
-module _ (t q : Task) (facts : q .table .facts ≡ t .table .facts) (actions : q .table .actions ≡ t .table .actions) (many : q .runs .many ≡ t .runs .many) where
-  inside-same : (c : Cell) → cellInside q c ≡ cellInside t c
-  unfolding cellInside
-  inside-same (Need a f) = rw (facts, actions)
-  inside-same (Add a f) = rw (facts, actions)
-  inside-same (Delete a f) = rw (facts, actions)
-  inside-same (Start r f) = rw (facts, many)
-  inside-same (Goal r f) = rw (facts, many)
-
-  names-same : (es : List Edit) (f : ℕ) → names q es f ≡ names t es f
-  unfolding names
-  names-same [] f = refl
-  names-same (e ∷ es) f = rw (inside-same (e .cell), names-same es f)
-
 -- ---- a story of edits
 
--- What a story comes to: the task that the accepted edits make, every row right for it, and every row that no accepted edit names kept.
+-- What a story comes to: the facts that the accepted edits name and the task that they make, every row right for it, and the row of every
+-- other fact kept.
 pub record Ends (t : Task) (s : List ℕ) (es : List Edit) (u : Task) (end : List ℕ) : Type 0 where
-  pub made : Made t es u
+  pub named : List ℕ
+  pub made : Made t es named u
   pub well : WellFormed u
   pub stored : Stored u end
-  pub kept : (f : ℕ) → f < maxFacts → names t es f ≡ false → rowAt end f ≡ rowAt s f
+  pub kept : (f : ℕ) → f < maxFacts → isIn named f ≡ false → rowAt end f ≡ rowAt s f
 
 module _ (t : Task) (s : List ℕ) (e : Edit) (es : List Edit) (r : TaskReply) (after : List ℕ) (u : Task) (end : List ℕ) where
-  ends-accepted : cellInside t (e .cell) ≡ true → EditedTo t e (r .task) → Rewritten (r .task) (cellFact (e .cell)) s after
+  ends-accepted : accepts t e ≡ true → EditedTo t e (r .task) → Rewritten (r .task) (cellFact (e .cell)) s after
       → Ends (r .task) after es u end → Ends t s (e ∷ es) u end
-  unfolding names
-  ends-accepted inside d new rest = record {
-    made = made-set inside d (rest .made);
+  unfolding isIn
+  ends-accepted good d new rest = record {
+    named = cellFact (e .cell) ∷ rest .named;
+    made = made-set good d (rest .made);
     well = rest .well;
     stored = rest .stored;
     kept = λ f h n.
-        let fact : ℕ = cellFact (e .cell) in
-        let none = or-neither (cellInside t (e .cell) && eqb fact f) (names t es f) n in
-        let apart : eqb fact f ≡ false = sym (ap (λ (x : Bool). x && eqb fact f) inside) ∙ none .0 in
-        rest .kept f h (names-same t (r .task) (d .facts) (d .actions) (d .many) es f ∙ none .1) ∙
-        new .others f h (λ k. eqb-false fact f apart (sym k));
+        let none = or-neither (eqb f (cellFact (e .cell))) (isIn (rest .named) f) n in
+        rest .kept f h (none .1) ∙ new .others f h (eqb-false f (cellFact (e .cell)) (none .0));
   }
 
-  ends-refused : cellInside t (e .cell) ≡ false → r .task ≡ t → after ≡ s → Ends (r .task) after es u end → Ends t s (e ∷ es) u end
-  unfolding names
-  ends-refused outside same kept rest = record {
-    made = made-refused outside (subst (λ (x : Task). Made x es u) same (rest .made));
+  ends-refused : accepts t e ≡ false → r .task ≡ t → after ≡ s → Ends (r .task) after es u end → Ends t s (e ∷ es) u end
+  ends-refused bad same kept rest = record {
+    named = rest .named;
+    made = made-refused bad (subst (λ (x : Task). Made x es (rest .named) u) same (rest .made));
     well = rest .well;
     stored = rest .stored;
-    kept = λ f h n.
-        let none = or-neither (cellInside t (e .cell) && eqb (cellFact (e .cell)) f) (names t es f) n in
-        rest .kept f h (ap (λ (x : Task). names x es f) same ∙ none .1) ∙ ap (λ (x : List ℕ). rowAt x f) kept;
+    kept = λ f h n. rest .kept f h n ∙ ap (λ (x : List ℕ). rowAt x f) kept;
   }
 
 pub story-ends : (t : Task) (s : List ℕ) (es : List Edit) (u : Task) (end : List ℕ) → WellFormed t → Stored t s → Story t s es u end → Ends t s es u end
-story-ends t s [] u end w b told-all = record { made = made-none; well = w; stored = b; kept = λ f h n. refl }
+story-ends t s [] u end w b told-all = record { named = []; made = made-none; well = w; stored = b; kept = λ f h n. refl }
 story-ends t s (e ∷ es) u end w b (then {r = r} {after = after} a story) =
-    pick (cellInside t (e .cell)) refl (story-ends (r .task) after es u end)
+    pick (accepts t e) refl (story-ends (r .task) after es u end)
   where
-    pick : (x : Bool) → cellInside t (e .cell) ≡ x
+    pick : (x : Bool) → accepts t e ≡ x
         → (WellFormed (r .task) → Stored (r .task) after → Story (r .task) after es u end → Ends (r .task) after es u end)
         → Ends t s (e ∷ es) u end
-    pick true inside rest =
-        let clear = edit-clear t s e (well-formed t w) (b .places) inside in
+    pick true good rest =
+        let clear = edit-clear t s e (well-formed t w) (b .places) good in
         let done = a .accepted (a .number ∙ ap (λ (x : _). x .number) clear) in
-        ends-accepted t s e es r after u end inside (done .0) (done .1)
-        (rest (edited-well t e (r .task) (done .0) w inside) (stored-edited t e (r .task) (done .0) s after b (done .1)) story)
-    pick false outside rest =
-        let clear = edit-outside t s e (well-formed t w) (b .places) outside in
-        let done = a .refused (λ k. absurd (omega (arith, a .number, ap (λ (x : _). x .number) clear))) in
-        ends-refused t s e es r after u end outside (done .0) (done .1)
+        ends-accepted t s e es r after u end good (done .0) (done .1)
+        (rest (edited-well t e (r .task) (done .0) w good) (stored-edited t e (r .task) (done .0) s after b (done .1)) story)
+    pick false bad rest =
+        let done = a .refused (λ k. false≢true (sym bad ∙ edit-accepted t s e (sym (a .number) ∙ k) .2)) in
+        ends-refused t s e es r after u end bad (done .0) (done .1)
         (rest (subst WellFormed (sym (done .0)) w)
         (subst (λ (x : Task). Stored x after) (sym (done .0)) (subst (Stored t) (sym (done .1)) b)) story)
 

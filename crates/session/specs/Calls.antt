@@ -1,18 +1,18 @@
 -- What opening, editing and listing a session give, for every input; and demand 3's words.
-use mathlib.Core.Bool.{Bool, true, false, cond, not, _&&_, _||_}
+use mathlib.Core.Bool.{true, false, cond, not}
 use mathlib.Core.List.{List, [], _∷_}
 use mathlib.Core.Path.{_≡_}
 use Prim.Native.Nat.{ℕ}
 use lib.Dec.{eqb}
 use lib.ListN.{length}
-use Rattle.change.specs.Editing.{cellFact, cellInside, EditedTo}
+use Rattle.change.specs.Editing.{cellFact, cellInside, leavesLock, accepts, EditedTo}
 use Rattle.change.specs.declared.Edit.{Edit}
 use Rattle.search.specs.Rows.{verdictIn}
 use Rattle.solve.specs.Solving.{told}
 use Rattle.table.specs.Outcomes.{Outcome, refused}
 use Rattle.rows.specs.Tables.{rowAt, Stored, Rewritten}
 use Rattle.table.specs.Join.{joinVerdicts}
-use Rattle.table.specs.Refusals.{Refusal, firstOf, refuse, accepted, notWellFormed, notASession, notThere}
+use Rattle.table.specs.Refusals.{Refusal, firstOf, refuse, accepted, notWellFormed, notASession, notThere, lockWithoutNeed}
 use Rattle.table.specs.Sizes.{sessionPlaces}
 use Rattle.table.specs.Tasks.{formed}
 use Rattle.table.specs.declared.Task.{Task}
@@ -31,12 +31,12 @@ pub record Opens (t : Task) (s : List ℕ) (r : Reply) (after : List ℕ) : Type
   pub refused : (r .number ≡ accepted → ⊥) → (r .length ≡ 0) × (after ≡ s)
   pub opened : r .number ≡ accepted → (r .length ≡ sessionPlaces) × Stored t after
 
--- The refusals of an edit, in order.
+-- The refusals of an edit, in order; 18 is "at 0 after 14" (02, request 6).
 unfoldable pub editRefusal : Task → List ℕ → Edit → Refusal
 editRefusal t s e =
     firstOf
     (refuse (not (formed t)) notWellFormed ∷ refuse (not (eqb (length s) sessionPlaces)) notASession ∷
-    refuse (not (cellInside t (e .cell))) notThere ∷ [])
+    refuse (not (cellInside t (e .cell))) notThere ∷ refuse (leavesLock t e) lockWithoutNeed ∷ [])
 
 -- "It gives the edited task and writes the fact's row afresh; other rows are kept as found, right or not." A refused
 -- edit returns the task it was given and writes nothing.
@@ -60,13 +60,10 @@ pub data Story : Task → List ℕ → List Edit → Task → List ℕ → Type 
   then : {t : Task} {s : List ℕ} {e : Edit} {r : TaskReply} {after : List ℕ} {es : List Edit} {u : Task} {end : List ℕ}
       → Edits t s e r after → Story (r .task) after es u end → Story t s (e ∷ es) u end
 
--- "the table as the accepted edits make it one after another": u is t with the accepted edits made in turn, of each exactly its cell.
-pub data Made : Task → List Edit → Task → Type 0 where
-  made-none : {t : Task} → Made t [] t
-  made-set : {t q u : Task} {e : Edit} {es : List Edit} → cellInside t (e .cell) ≡ true → EditedTo t e q → Made q es u → Made t (e ∷ es) u
-  made-refused : {t u : Task} {e : Edit} {es : List Edit} → cellInside t (e .cell) ≡ false → Made t es u → Made t (e ∷ es) u
-
--- An accepted edit of the list names fact f. (Edits leave the sizes alone, so that each is inside exactly if it is inside the first task.)
-unfoldable pub names : Task → List Edit → ℕ → Bool
-names t [] f = false
-names t (e ∷ es) f = (cellInside t (e .cell) && eqb (cellFact (e .cell)) f) || names t es f
+-- "the table as the accepted edits make it one after another": u is t with the accepted edits made in turn, of each exactly its cell, and
+-- fs the facts that these name, in order. An edit is judged on the task as it then stands: a lock may go, and after it the need.
+pub data Made : Task → List Edit → List ℕ → Task → Type 0 where
+  made-none : {t : Task} → Made t [] [] t
+  made-set : {t q u : Task} {e : Edit} {es : List Edit} {fs : List ℕ}
+      → accepts t e ≡ true → EditedTo t e q → Made q es fs u → Made t (e ∷ es) (cellFact (e .cell) ∷ fs) u
+  made-refused : {t u : Task} {e : Edit} {es : List Edit} {fs : List ℕ} → accepts t e ≡ false → Made t es fs u → Made t (e ∷ es) fs u

@@ -17,6 +17,8 @@ pub const START: usize = 3;
 
 pub const GOAL: usize = 4;
 
+pub const LOCK: usize = 5;
+
 pub const ABSENT: usize = 0;
 
 // A number that is no kind names a fact that no task has.
@@ -42,6 +44,11 @@ fn cell_of(kind: usize, whose: usize, fact: usize) -> Cell
         Cell::Start { run: whose, fact }
     } else if kind == GOAL {
         Cell::Goal { run: whose, fact }
+    } else if kind == LOCK {
+        Cell::Lock {
+            action: whose,
+            fact,
+        }
     } else {
         Cell::Start {
             run: whose,

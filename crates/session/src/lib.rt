@@ -47,7 +47,7 @@ fn refuse_edit(t: Task, number: usize) -> TaskReply
     }
 }
 
-// One edit: 12, 13 for another length, 14, else the edited task with the fact's row written afresh; it costs one row.
+// One edit: 12, 13 for another length, 14, 18, else the edited task with the fact's row written afresh; it costs one row.
 pub fn edit(t: Task, table: &mut [u16], e: Edit) -> TaskReply
     ensures { λ r. ⌜ Edits t (now (table .entry)) e r (now (table .exit)) ⌝ }
 {
@@ -59,6 +59,9 @@ pub fn edit(t: Task, table: &mut [u16], e: Edit) -> TaskReply
     }
     if !editing::is_inside(t, e) {
         return refuse_edit(t, refusals::NOT_THERE);
+    }
+    if editing::leaves_lock(t, e) {
+        return refuse_edit(t, refusals::LOCK_WITHOUT_NEED);
     }
     let task = editing::set_cell(t, e);
     let fact = editing::cell_fact(e);

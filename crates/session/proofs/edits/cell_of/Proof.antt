@@ -37,14 +37,28 @@ returns-5 c =
 returns-6 : tie.Need-returns-6
 unfolding cellOf
 returns-6 c =
-    let d = c .before .before in
+    let d = c .before .before .before in
     rw (
       ne-eqb _ _ (d .before .before .if1 .left),
       ne-eqb _ _ (d .before .if2 .left),
       ne-eqb _ _ (d .if3 .left),
-      ne-eqb _ _ (c .before .if4 .left),
-      ne-eqb _ _ (c .if5 .left),
+      ne-eqb _ _ (c .before .before .if4 .left),
+      ne-eqb _ _ (c .before .if5 .left),
+      eq-eqb _ _ (c .if6 .taken),
+    )
+
+returns-7 : tie.Need-returns-7
+unfolding cellOf
+returns-7 c =
+    let d = c .before .before .before in
+    rw (
+      ne-eqb _ _ (d .before .before .if1 .left),
+      ne-eqb _ _ (d .before .if2 .left),
+      ne-eqb _ _ (d .if3 .left),
+      ne-eqb _ _ (c .before .before .if4 .left),
+      ne-eqb _ _ (c .before .if5 .left),
+      ne-eqb _ _ (c .if6 .left),
     )
 
 pub cell-of-spec : {M : Type 1} → statement M
-cell-of-spec = tie.close (tie.spec returns returns-2 returns-3 returns-4 returns-5 returns-6)
+cell-of-spec = tie.close (tie.spec returns returns-2 returns-3 returns-4 returns-5 returns-6 returns-7)
