@@ -3,9 +3,10 @@
  *
  * A sample is so many calls in a row that the clock's own cost does not show; the minimum and the median are over the
  * samples. The run that is checked is the last one. An edit is one present cell set to absent, or set back: each present
- * cell of the task is done in turn (if edits are slow, evenly spaced ones of them), the least time over the rounds is
- * kept for each, and the line has the mean and the worst over the cells; `edit/open` is the mean against opening. The
- * last two numbers are how many facts the task has, and how many of them are wrong: their rows are not empty.
+ * cell of the task but a locked need, which no edit clears, is done in turn (if edits are slow, evenly spaced ones of them),
+ * the least time over the rounds is kept for each, and the line has the mean and the worst over the cells; `edit/open` is the
+ * mean against opening. The last two numbers are how many facts the task has, and how many of them are wrong: their rows are
+ * not empty.
  *
  * Status: 2 a file cannot be opened, 3 it is refused, 4 an edit and its undoing do not give the task, 5 no cell. */
 #define _POSIX_C_SOURCE 200809L
@@ -16,14 +17,15 @@
 
 #include "../c/zernoplysk.h"
 
-enum { INPUT_BYTES = 24000, FACTS = 64, MOST_CELLS = 3 * ZP_ACTIONS * FACTS + 2 * ZP_RUNS * FACTS };
+enum { FACTS = 64, MOST_CELLS = 3 * ZP_ACTIONS * FACTS + 2 * ZP_RUNS * FACTS };
 
 /* How many samples (rounds, for edits) at most and at least; a sample's least time; about how long all samples of one
  * call take; how long the fewest rounds of edits may take, in nanoseconds. */
 enum { SAMPLES = 101, FEWEST = 3 };
 static const double sample_time = 2e4, call_time = 2e8, edits_time = 5e9;
 
-static uint8_t file[INPUT_BYTES];
+/* The longest file, and a byte more, by which a longer one is refused. */
+static uint8_t file[ZP_FILE_BYTES + 1];
 static size_t file_len;
 static uint64_t read_answer[ZP_TASK_ANSWER_WORDS], answer[ZP_CHECKED_WORDS], changed[ZP_TASK_WORDS];
 static const uint64_t *const task = read_answer + 2;
@@ -83,11 +85,12 @@ static void take_cells(size_t kind, size_t where, uint64_t facts) {
             cell[cells++] = (struct cell){kind, where, fact, 1e18};
 }
 
-/* The present cells of the task. */
+/* The present cells of the task: of a need and its lock, the lock. */
 static void all_cells(void) {
     cells = 0;
     for (size_t a = 0; a < ZP_ACTIONS; a++) {
-        take_cells(ZP_NEED, a, task[ZP_AT_NEEDS + a]);
+        take_cells(ZP_NEED, a, task[ZP_AT_NEEDS + a] & ~task[ZP_AT_LOCKS + a]);
+        take_cells(ZP_LOCK, a, task[ZP_AT_LOCKS + a]);
         take_cells(ZP_ADD, a, task[ZP_AT_ADDS + a]);
         take_cells(ZP_DELETE, a, task[ZP_AT_DELETES + a]);
     }

@@ -142,12 +142,14 @@ static size_t edits_of(size_t kind, size_t whose, uint64_t facts) {
     return deepest;
 }
 
-/* The deepest edit over the present cells of the task, of the table that was opened last. */
+/* The deepest edit over the present cells of the task, of the table that was opened last; of a need and its lock, over the lock:
+ * under it no edit clears the need (02, request 6). */
 static size_t all_edits(void) {
     size_t deepest = 0;
     memcpy(changed, task, sizeof changed);
     for (size_t a = 0; a < ZP_ACTIONS; a++) {
-        deepest = deeper(deepest, edits_of(ZP_NEED, a, task[ZP_AT_NEEDS + a]));
+        deepest = deeper(deepest, edits_of(ZP_NEED, a, task[ZP_AT_NEEDS + a] & ~task[ZP_AT_LOCKS + a]));
+        deepest = deeper(deepest, edits_of(ZP_LOCK, a, task[ZP_AT_LOCKS + a]));
         deepest = deeper(deepest, edits_of(ZP_ADD, a, task[ZP_AT_ADDS + a]));
         deepest = deeper(deepest, edits_of(ZP_DELETE, a, task[ZP_AT_DELETES + a]));
     }

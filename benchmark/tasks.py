@@ -5,7 +5,7 @@ import re
 import shutil
 
 from times import CLIMB, HERE, LIMIT, OUT, SECOND, library_times, said
-from to_asp import BODY
+from to_asp import BODY, CELLS, GOAL, LOCK, START
 
 TASKS = OUT / "tasks"
 CLIMBED = OUT / "climbed"
@@ -23,8 +23,8 @@ def made(seed):
     said(SECOND, "hard", "--seed", seed, TASKS)
     hardest = max(TASKS.glob("deep-*"), key=tree)
     (TASKS / f"worst-64-facts-tree-{tree(hardest)}.task").write_bytes(on_all_facts(hardest.read_bytes()))
-    (TASKS / "worst-file.task").write_bytes(largest_file(RUNS))
-    (TASKS / "worst-one-run.task").write_bytes(largest_file(1))
+    (TASKS / "worst-file.task").write_bytes(largest_file(RUNS, CELLS))
+    (TASKS / "worst-one-run.task").write_bytes(largest_file(1, [kind for kind in CELLS if kind != LOCK]))
     return tasks_in(TASKS)
 
 
@@ -74,17 +74,17 @@ def on_all_facts(file):
         at += len(record)
         if record[0] == 1:
             out += bytes([1, 64]) + record[2:]
-        elif 2 <= record[0] <= 6:
+        elif record[0] in (START, GOAL, *CELLS):
             out += b"".join(record[:-1] + bytes([fact]) for fact in range(64))
         else:
             out += record
     return out
 
 
-def largest_file(runs):
-    """All cells present, 64 steps a run: 21,516 bytes with eight runs, 18,821 with one."""
+def largest_file(runs, kinds):
+    """All cells of these kinds present, 64 steps a run: 27,660 bytes with eight runs and locks, 18,821 with one and none."""
     ends = b"".join(bytes([kind, f]) for kind in (2, 3) for f in range(64))
-    cells = b"".join(bytes([kind, a, f]) for kind in (4, 5, 6) for a in range(32) for f in range(64))
+    cells = b"".join(bytes([kind, a, f]) for kind in kinds for a in range(32) for f in range(64))
     steps = bytes([7, 31]) * 64
     return bytes([1, 64, 32, LIMIT]) + ends + cells + steps + (b"\x09" + ends + steps) * (runs - 1) + b"\x08"
 

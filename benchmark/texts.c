@@ -11,9 +11,9 @@
 
 #include "../c/zernoplysk.h"
 
-enum { INPUT_BYTES = 24000, SAMPLES = 51, CALLS = 8 };
+enum { SAMPLES = 51, CALLS = 8 };
 
-static uint8_t file[INPUT_BYTES], domain[ZP_DOMAIN_BYTES], problem[ZP_PROBLEM_BYTES];
+static uint8_t file[ZP_FILE_BYTES + 1], domain[ZP_DOMAIN_BYTES], problem[ZP_PROBLEM_BYTES];
 static uint64_t read_answer[ZP_TASK_ANSWER_WORDS], back[ZP_TASK_ANSWER_WORDS], answer[ZP_PROBLEM_WORDS];
 static size_t domain_len, problem_len;
 static const uint64_t *const task = read_answer + 2;

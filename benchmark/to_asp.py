@@ -3,9 +3,9 @@
 
 import sys
 
-START, GOAL, STEP, END, RUN = 2, 3, 7, 8, 9
-BODY = {1: 3, START: 1, GOAL: 1, 4: 2, 5: 2, 6: 2, STEP: 1, END: 0, RUN: 0}
-CELLS = {4: "need", 5: "add", 6: "del"}
+START, GOAL, STEP, END, RUN, LOCK = 2, 3, 7, 8, 9, 10
+CELLS = {4: "need", 5: "add", 6: "del", LOCK: "lock"}
+BODY = {1: 3, START: 1, GOAL: 1, STEP: 1, END: 0, RUN: 0, **dict.fromkeys(CELLS, 2)}
 ENDS = {START: "start", GOAL: "goal"}
 
 

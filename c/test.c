@@ -1,6 +1,6 @@
 /* A small test of each function of the header: 01's 36-byte file through every call, which byte is wrong, the order of the
- * parameters, several runs, steps that can't run, the PDDL texts there and back, short rooms and short answers, empty slices
- * and wrong lengths. It prints what fails and ends with status 1 if anything did. */
+ * parameters, several runs, steps that can't run, locks, the PDDL texts there and back, short rooms and short answers, empty
+ * slices and wrong lengths. It prints what fails and ends with status 1 if anything did. */
 #include <stdio.h>
 #include <string.h>
 
@@ -24,6 +24,7 @@ static uint64_t task[ZP_TASK_WORDS];
 static uint64_t lent[ZP_TASK_WORDS + 1];
 
 enum { UNTOUCHED = 7, HALF_UNTOUCHED = 0x0707 };
+enum { WORD_LESS = ZP_TASK_WORDS - 1, WORD_MORE = ZP_TASK_WORDS + 1 };
 
 /* The words of the answer, before the next call, all set to a value that no call gives there. */
 static uint64_t *fresh(void) {
@@ -85,7 +86,7 @@ static int halves_kept(const uint16_t *room, size_t length) {
 
 static void read_and_records(void) {
     expect(zp_read(file, sizeof file, fresh(), ZP_TASK_ANSWER_WORDS) == 0, "read: accepted");
-    expect(answer[0] == 0 && answer[1] == 0 && kept(ZP_TASK_ANSWER_WORDS), "read: 0, 0 and 636 words");
+    expect(answer[0] == 0 && answer[1] == 0 && kept(ZP_TASK_ANSWER_WORDS), "read: 0, 0 and the task's words");
     memcpy(task, answer + 2, sizeof task);
     expect(task[ZP_AT_FACTS] == 4 && task[ZP_AT_ACTIONS] == 3 && task[ZP_AT_LIMIT] == 3, "read: sizes");
     expect(task[ZP_AT_NEEDS] == 1 && task[ZP_AT_NEEDS + 1] == 2 && task[ZP_AT_NEEDS + 2] == 6, "read: needs");
@@ -188,21 +189,21 @@ static void short_answers(size_t missing) {
     lend();
     expect(too_short(zp_record(file, 36, 8, answer, less(ZP_RECORD_WORDS, missing))), "short answer: record");
     expect(too_short(zp_read(file, 36, answer, less(ZP_TASK_ANSWER_WORDS, missing))), "short answer: read");
-    expect(too_short(zp_write(lent, 636, bytes, 40, answer, reply)), "short answer: write");
-    expect(too_short(zp_check(lent, 636, 0, answer, less(ZP_CHECKED_WORDS, missing))), "short answer: check");
-    expect(too_short(zp_apply(lent, 636, table, 0, answer, changed)), "short answer: apply");
-    expect(too_short(zp_solve(lent, 636, room, 8, answer, reply)), "short answer: solve");
-    expect(too_short(zp_open(lent, 636, table, 448, answer, reply)), "short answer: open");
-    expect(too_short(zp_edit(lent, 636, ZP_NEED, 2, 3, 1, table, 448, answer, changed)), "short answer: edit");
-    expect(too_short(zp_list(lent, 636, table, 448, room, 8, answer, reply)), "short answer: list");
+    expect(too_short(zp_write(lent, ZP_TASK_WORDS, bytes, 40, answer, reply)), "short answer: write");
+    expect(too_short(zp_check(lent, ZP_TASK_WORDS, 0, answer, less(ZP_CHECKED_WORDS, missing))), "short answer: check");
+    expect(too_short(zp_apply(lent, ZP_TASK_WORDS, table, 0, answer, changed)), "short answer: apply");
+    expect(too_short(zp_solve(lent, ZP_TASK_WORDS, room, 8, answer, reply)), "short answer: solve");
+    expect(too_short(zp_open(lent, ZP_TASK_WORDS, table, 448, answer, reply)), "short answer: open");
+    expect(too_short(zp_edit(lent, ZP_TASK_WORDS, ZP_NEED, 2, 3, 1, table, 448, answer, changed)), "short answer: edit");
+    expect(too_short(zp_list(lent, ZP_TASK_WORDS, table, 448, room, 8, answer, reply)), "short answer: list");
     expect(too_short(zp_listing(file, 36, bytes, 40, answer, reply)), "short answer: listing");
-    expect(too_short(zp_write_domain(lent, 636, bytes, 40, answer, reply)), "short answer: write_domain");
-    expect(too_short(zp_write_problem(lent, 636, 0, bytes, 40, answer, reply)), "short answer: write_problem");
+    expect(too_short(zp_write_domain(lent, ZP_TASK_WORDS, bytes, 40, answer, reply)), "short answer: write_domain");
+    expect(too_short(zp_write_problem(lent, ZP_TASK_WORDS, 0, bytes, 40, answer, reply)), "short answer: write_problem");
     expect(too_short(zp_read_domain(file, 36, 3, answer, less(ZP_TASK_ANSWER_WORDS, missing))), "short answer: read_domain");
     expect(too_short(zp_read_problem(file, 36, 4, answer, less(ZP_PROBLEM_WORDS, missing))), "short answer: read_problem");
-    expect(too_short(zp_add_run(lent, 636, 1, 8, file + 30, 1, answer, changed)), "short answer: add_run");
-    expect(too_short(zp_solve(lent, 635, room, 0, answer, reply)), "short answer: before 12");
-    expect(too_short(zp_edit(lent, 635, 9, 9, 9, 9, table, 3, answer, changed)), "short answer: before 12, 13 and 14");
+    expect(too_short(zp_add_run(lent, ZP_TASK_WORDS, 1, 8, file + 30, 1, answer, changed)), "short answer: add_run");
+    expect(too_short(zp_solve(lent, WORD_LESS, room, 0, answer, reply)), "short answer: before 12");
+    expect(too_short(zp_edit(lent, WORD_LESS, 9, 9, 9, 9, table, 3, answer, changed)), "short answer: before 12, 13 and 14");
     expect(bytes_kept(bytes, 40) && halves_kept(room, 8) && halves_kept(table, 448) && as_lent() && kept(0),
            "short answer: nothing lent is touched");
 }
@@ -211,8 +212,8 @@ static void write_and_check(void) {
     uint8_t room[40];
     memset(room, UNTOUCHED, sizeof room);
     expect(zp_write(task, ZP_TASK_WORDS, room, 35, fresh(), ZP_REPLY_WORDS) == 11 && is_reply(11, 0, 0), "write: short room");
-    expect(zp_write(task, 635, room, 35, fresh(), ZP_REPLY_WORDS) == 12 && is_reply(12, 0, 0), "write: 635 words");
-    expect(zp_write(task, 635, NULL, 0, fresh(), ZP_REPLY_WORDS) == 12, "write: 12 before 11");
+    expect(zp_write(task, WORD_LESS, room, 35, fresh(), ZP_REPLY_WORDS) == 12 && is_reply(12, 0, 0), "write: a word less");
+    expect(zp_write(task, WORD_LESS, NULL, 0, fresh(), ZP_REPLY_WORDS) == 12, "write: 12 before 11");
     expect(zp_write(task, ZP_TASK_WORDS, NULL, 0, fresh(), ZP_REPLY_WORDS) == 11, "write: no room");
     expect(bytes_kept(room, sizeof room), "write: a refusal writes nothing");
     expect(zp_check(NULL, 0, 0, fresh(), ZP_CHECKED_WORDS) == 12 && answer[1] == 0 && answer[2] == 0, "check: no task");
@@ -237,9 +238,9 @@ static void solve_and_apply(void) {
     expect(zp_apply(lend(), ZP_TASK_WORDS, room + 1, 2, fresh(), ZP_CHANGED_WORDS) == 15 && is_changed(15, 1),
            "apply: 15 at 1");
     expect(as_lent(), "apply: 15 leaves the task's words");
-    expect(zp_apply(lend(), 635, room, 2, fresh(), ZP_CHANGED_WORDS) == 12 && is_changed(12, 0), "apply: 635 words");
-    expect(as_lent(), "apply: 635 words are left as they were");
-    expect(zp_apply(lend(), 637, room, 2, fresh(), ZP_CHANGED_WORDS) == 12 && as_lent(), "apply: so are 637");
+    expect(zp_apply(lend(), WORD_LESS, room, 2, fresh(), ZP_CHANGED_WORDS) == 12 && is_changed(12, 0), "apply: a word less");
+    expect(as_lent(), "apply: a word less is left as it was");
+    expect(zp_apply(lend(), WORD_MORE, room, 2, fresh(), ZP_CHANGED_WORDS) == 12 && as_lent(), "apply: so is a word more");
     lend()[ZP_AT_STEPS] = 300;
     expect(zp_apply(lent, ZP_TASK_WORDS, room, 2, fresh(), ZP_CHANGED_WORDS) == 12 && is_changed(12, 0), "apply: step 300");
     expect(differs_at(ZP_AT_STEPS, 300), "apply: step 300 is left as it was");
@@ -284,14 +285,14 @@ static void refused_edits(void) {
     memset(table, UNTOUCHED, sizeof table);
     expect(zp_edit(lend(), ZP_TASK_WORDS, ZP_DELETE, 3, 1, 0, table, 448, fresh(), ZP_CHANGED_WORDS) == 14, "edit: 14");
     expect(is_changed(14, 0) && as_lent(), "edit: 14 leaves the task's words");
-    expect(zp_edit(lend(), ZP_TASK_WORDS, 5, 0, 0, 0, table, 448, fresh(), ZP_CHANGED_WORDS) == 14, "edit: no such kind");
+    expect(zp_edit(lend(), ZP_TASK_WORDS, 6, 0, 0, 0, table, 448, fresh(), ZP_CHANGED_WORDS) == 14, "edit: no such kind");
     expect(as_lent(), "edit: no such kind leaves the task's words");
     expect(zp_edit(lend(), ZP_TASK_WORDS, ZP_DELETE, 3, 1, 0, table, 447, fresh(), ZP_CHANGED_WORDS) == 13,
            "edit: 447 numbers, before 14");
     expect(is_changed(13, 0) && as_lent(), "edit: 13 leaves the task's words");
-    expect(zp_edit(lend(), 635, ZP_DELETE, 3, 1, 0, table, 447, fresh(), ZP_CHANGED_WORDS) == 12,
-           "edit: 635 words, before 13 and 14");
-    expect(is_changed(12, 0) && as_lent(), "edit: 635 words are left as they were");
+    expect(zp_edit(lend(), WORD_LESS, ZP_DELETE, 3, 1, 0, table, 447, fresh(), ZP_CHANGED_WORDS) == 12,
+           "edit: a word less, before 13 and 14");
+    expect(is_changed(12, 0) && as_lent(), "edit: a word less is left as it was");
     lend()[ZP_AT_STEPS + 1] = 300;
     expect(zp_edit(lent, ZP_TASK_WORDS, ZP_DELETE, 1, 1, 0, table, 448, fresh(), ZP_CHANGED_WORDS) == 12, "edit: step 300");
     expect(is_changed(12, 0) && differs_at(ZP_AT_STEPS + 1, 300), "edit: step 300 is left as it was");
@@ -329,7 +330,7 @@ static void checking_runs(void) {
     expect(zp_check(lent, ZP_TASK_WORDS, 1, fresh(), ZP_CHECKED_WORDS) == 0 && is_checked(0, 2, 1, 2), "runs: its own start");
     expect(zp_check(task, ZP_TASK_WORDS, 2, fresh(), ZP_CHECKED_WORDS) == 14 && is_checked(14, 0, 0, 0), "runs: no run 2");
     expect(zp_check(task, ZP_TASK_WORDS, (size_t)-1, fresh(), ZP_CHECKED_WORDS) == 14, "runs: any number of a run");
-    expect(zp_check(task, 635, 2, fresh(), ZP_CHECKED_WORDS) == 12, "runs: 12 before 14");
+    expect(zp_check(task, WORD_LESS, 2, fresh(), ZP_CHECKED_WORDS) == 12, "runs: 12 before 14");
     lend()[ZP_AT_MANY] = 1;
     expect(zp_check(lent, ZP_TASK_WORDS, 0, fresh(), ZP_CHECKED_WORDS) == 12, "runs: an unused run with numbers");
     lend()[ZP_AT_MANY] = 9;
@@ -377,6 +378,93 @@ static void rejected_steps(void) {
     lend()[ZP_AT_STARTS] |= 1;
     expect(zp_check(lent, ZP_TASK_WORDS, 0, fresh(), ZP_CHECKED_WORDS) == 0 && is_checked(0, 4, 2, 1),
            "rejected: with its need there it runs, and the next one can't");
+}
+
+/* Action 2 needs fact 1 under a lock, and each of the two runs has another action before it (02, request 6). */
+static const uint8_t locked[] = {1, 2, 3, 2, 4, 2, 1, 10, 2, 1, 7, 0, 7, 2, 9, 7, 1, 7, 2, 8};
+
+/* The file with one byte changed is refused with this number at this place. */
+static int is_refused_lock(size_t changed, uint8_t value, size_t number, size_t place) {
+    uint8_t wrong[sizeof locked];
+    memcpy(wrong, locked, sizeof locked);
+    wrong[changed] = value;
+    return zp_read(wrong, sizeof wrong, fresh(), ZP_TASK_ANSWER_WORDS) == number && answer[1] == place &&
+           answer[2 + ZP_AT_LOCKS + 2] == 0;
+}
+
+static void reading_locks(void) {
+    static const uint8_t late[] = {1, 1, 1, 0, 4, 0, 0, 9, 10, 0, 0, 8};
+    uint8_t room[24];
+    memset(room, UNTOUCHED, sizeof room);
+    expect(zp_read(locked, sizeof locked, fresh(), ZP_TASK_ANSWER_WORDS) == 0, "locks: read");
+    memcpy(task, answer + 2, sizeof task);
+    expect(task[ZP_AT_NEEDS + 2] == 2 && task[ZP_AT_LOCKS + 2] == 2 && task[ZP_AT_DELETES + 2] == 0, "locks: the need's lock");
+    expect(task[ZP_AT_LOCKS] == 0 && task[ZP_AT_LOCKS + 1] == 0 && task[ZP_AT_MANY] == 2, "locks: no other");
+    expect(zp_write(task, ZP_TASK_WORDS, room, sizeof room, fresh(), ZP_REPLY_WORDS) == 0 && is_reply(0, 0, sizeof locked) &&
+               memcmp(room, locked, sizeof locked) == 0 && bytes_kept(room + sizeof locked, 4),
+           "locks: the file again");
+    expect(zp_record(locked, sizeof locked, 7, fresh(), ZP_RECORD_WORDS) == 0 && answer[2] == 10 && answer[4] == 2 &&
+               answer[5] == 10,
+           "locks: the record of kind 10");
+    expect(is_refused_lock(9, 0, 18, 7) && is_refused_lock(8, 0, 18, 7), "locks: on no need, 18 at the record's start");
+    expect(is_refused_lock(9, 2, 5, 9) && is_refused_lock(8, 3, 5, 8), "locks: 5 before 18");
+    expect(zp_read(late, sizeof late, fresh(), ZP_TASK_ANSWER_WORDS) == 6 && answer[1] == 8, "locks: after kind 9");
+    lend()[ZP_AT_LOCKS] = 1;
+    expect(zp_check(lent, ZP_TASK_WORDS, 0, fresh(), ZP_CHECKED_WORDS) == 12, "locks: on no need, not well formed");
+}
+
+/* Without the lock the shortest list drops the need, 162; with it each of the other actions has to add the fact. */
+static void solving_under_locks(void) {
+    static const uint16_t drop[1] = {162};
+    uint16_t room[6], table[ZP_TABLE_NUMBERS];
+    lend()[ZP_AT_LOCKS + 2] = 0;
+    expect(zp_solve(lent, ZP_TASK_WORDS, room, 6, fresh(), ZP_REPLY_WORDS) == 0 && is_reply(0, 0, 1) && room[0] == 162,
+           "locks: without one the need is dropped");
+    expect(zp_apply(lent, ZP_TASK_WORDS, drop, 1, fresh(), ZP_CHANGED_WORDS) == 0 && lent[ZP_AT_NEEDS + 2] == 0,
+           "locks: and the drop applied");
+    expect(zp_solve(task, ZP_TASK_WORDS, room, 6, fresh(), ZP_REPLY_WORDS) == 0 && is_reply(0, 0, 2) && room[0] == 128 &&
+               room[1] == 129,
+           "locks: another list");
+    expect(zp_apply(lend(), ZP_TASK_WORDS, drop, 1, fresh(), ZP_CHANGED_WORDS) == 15 && is_changed(15, 0) && as_lent(),
+           "locks: a drop under one is 15, and the task's words are left");
+    expect(zp_apply(lend(), ZP_TASK_WORDS, room, 2, fresh(), ZP_CHANGED_WORDS) == 0 && lent[ZP_AT_NEEDS + 2] == 2 &&
+               lent[ZP_AT_LOCKS + 2] == 2,
+           "locks: the list applied leaves the need and its lock");
+    lend()[ZP_AT_STEPS] = 2;
+    expect(zp_solve(lent, ZP_TASK_WORDS, room, 6, fresh(), ZP_REPLY_WORDS) == 9 && is_reply(9, 0, 0),
+           "locks: at a run's first step, 9");
+    expect(zp_open(lent, ZP_TASK_WORDS, table, 448, fresh(), ZP_REPLY_WORDS) == 0 && table[7] == 8 && table[0] == 0,
+           "locks: and 8 in the fact's row");
+}
+
+/* The lock taken off and set again, with the row of fact 1. */
+static void editing_locks(void) {
+    uint16_t table[ZP_TABLE_NUMBERS];
+    memset(table, UNTOUCHED, sizeof table);
+    expect(zp_edit(lend(), ZP_TASK_WORDS, ZP_LOCK, 2, 1, 0, table, 448, fresh(), ZP_CHANGED_WORDS) == 0 && is_changed(0, 0) &&
+               differs_at(ZP_AT_LOCKS + 2, 0),
+           "locks: one cleared");
+    expect(table[7] == 1 && table[8] == 162 && halves_kept(table, 7) && halves_kept(table + 14, 434), "locks: its row");
+    expect(zp_edit(lent, ZP_TASK_WORDS, ZP_LOCK, 0, 1, 0, table, 448, fresh(), ZP_CHANGED_WORDS) == 0 &&
+               differs_at(ZP_AT_LOCKS + 2, 0),
+           "locks: none there cleared");
+    expect(zp_edit(lent, ZP_TASK_WORDS, ZP_LOCK, 2, 1, 1, table, 448, fresh(), ZP_CHANGED_WORDS) == 0 && as_lent(),
+           "locks: set again");
+    expect(table[7] == 2 && table[8] == 128 && table[9] == 129, "locks: its row again");
+    memset(table, UNTOUCHED, sizeof table);
+    expect(zp_edit(lent, ZP_TASK_WORDS, ZP_NEED, 2, 1, 0, table, 448, fresh(), ZP_CHANGED_WORDS) == 18 && is_changed(18, 0) &&
+               as_lent(),
+           "locks: a need under one is not cleared");
+    expect(zp_edit(lent, ZP_TASK_WORDS, ZP_LOCK, 0, 1, 1, table, 448, fresh(), ZP_CHANGED_WORDS) == 18 && is_changed(18, 0) &&
+               as_lent(),
+           "locks: none on a cell that isn't a need");
+    expect(zp_edit(lent, ZP_TASK_WORDS, ZP_LOCK, 3, 1, 1, table, 448, fresh(), ZP_CHANGED_WORDS) == 14 &&
+               zp_edit(lent, ZP_TASK_WORDS, ZP_LOCK, 0, 1, 1, table, 447, fresh(), ZP_CHANGED_WORDS) == 13,
+           "locks: 13 and 14 before 18");
+    expect(halves_kept(table, 448), "locks: 18 leaves the table");
+    expect(zp_edit(lent, ZP_TASK_WORDS, ZP_LOCK, 2, 1, 0, table, 448, fresh(), ZP_CHANGED_WORDS) == 0 &&
+               zp_edit(lent, ZP_TASK_WORDS, ZP_NEED, 2, 1, 0, table, 448, fresh(), ZP_CHANGED_WORDS) == 0 && table[7] == 0,
+           "locks: first the lock, then the need");
 }
 
 static void listing_runs(void) {
@@ -481,15 +569,15 @@ static void morning(const uint8_t *bytes, size_t length) {
 /* Of the mended task with two runs: 12, then 14, then 11, and nothing written. */
 static void refused_writing(void) {
     blank();
-    expect(zp_write_domain(task, 635, text, sizeof text, fresh(), ZP_REPLY_WORDS) == 12 && is_reply(12, 0, 0),
-           "write_domain: 635 words");
-    expect(zp_write_domain(task, 637, NULL, 0, fresh(), ZP_REPLY_WORDS) == 12, "write_domain: 12 before 11");
+    expect(zp_write_domain(task, WORD_LESS, text, sizeof text, fresh(), ZP_REPLY_WORDS) == 12 && is_reply(12, 0, 0),
+           "write_domain: a word less");
+    expect(zp_write_domain(lend(), WORD_MORE, NULL, 0, fresh(), ZP_REPLY_WORDS) == 12, "write_domain: 12 before 11");
     lend()[ZP_AT_MANY] = 0;
     expect(zp_write_domain(lent, ZP_TASK_WORDS, text, sizeof text, fresh(), ZP_REPLY_WORDS) == 12, "write_domain: no run");
     expect(zp_write_domain(task, ZP_TASK_WORDS, text, DOMAIN - 1, fresh(), ZP_REPLY_WORDS) == 11 && is_reply(11, 0, 0),
            "write_domain: a byte too short");
     expect(zp_write_domain(task, ZP_TASK_WORDS, NULL, 0, fresh(), ZP_REPLY_WORDS) == 11, "write_domain: no room");
-    expect(zp_write_problem(task, 635, 2, NULL, 0, fresh(), ZP_REPLY_WORDS) == 12 && is_reply(12, 0, 0),
+    expect(zp_write_problem(task, WORD_LESS, 2, NULL, 0, fresh(), ZP_REPLY_WORDS) == 12 && is_reply(12, 0, 0),
            "write_problem: 12 before 14 and 11");
     expect(zp_write_problem(task, ZP_TASK_WORDS, 2, text, sizeof text, fresh(), ZP_REPLY_WORDS) == 14 && is_reply(14, 0, 0),
            "write_problem: no such run");
@@ -597,6 +685,32 @@ static void greatest_texts(void) {
            "greatest: start and goal again");
 }
 
+/* With locks and eight runs of 64 steps its file fills the room that has its name; the domain text carries no locks (02,
+ * request 6). */
+static void greatest_file(void) {
+    static uint8_t bytes[ZP_FILE_BYTES + 1], steps[ZP_STEPS];
+    uint64_t all = ~(uint64_t)0;
+    memset(task, 0, sizeof task);
+    task[ZP_AT_FACTS] = 64;
+    task[ZP_AT_ACTIONS] = ZP_ACTIONS;
+    for (size_t i = ZP_AT_NEEDS; i < ZP_AT_MANY; i++)
+        task[i] = all;
+    for (size_t run = 0; run < ZP_RUNS; run++)
+        expect(zp_add_run(task, ZP_TASK_WORDS, all, all, steps, ZP_STEPS, fresh(), ZP_CHANGED_WORDS) == 0, "greatest: a run");
+    bytes[ZP_FILE_BYTES] = UNTOUCHED;
+    expect(zp_write(task, ZP_TASK_WORDS, bytes, sizeof bytes, fresh(), ZP_REPLY_WORDS) == 0 && is_reply(0, 0, ZP_FILE_BYTES) &&
+               bytes[ZP_FILE_BYTES] == UNTOUCHED,
+           "greatest: the file fills its room");
+    expect(zp_read(bytes, ZP_FILE_BYTES, fresh(), ZP_TASK_ANSWER_WORDS) == 0 && memcmp(answer + 2, task, sizeof task) == 0,
+           "greatest: the task again");
+    expect(zp_write_domain(task, ZP_TASK_WORDS, text, ZP_DOMAIN_BYTES, fresh(), ZP_REPLY_WORDS) == 0, "greatest: its text");
+    expect(zp_read_domain(text, ZP_DOMAIN_BYTES, 0, fresh(), ZP_TASK_ANSWER_WORDS) == 0 &&
+               memcmp(answer + 2, task, ZP_AT_LOCKS * sizeof *task) == 0,
+           "greatest: needs, adds and deletes again");
+    for (size_t i = ZP_AT_LOCKS; i < ZP_TASK_WORDS; i++)
+        expect(answer[2 + i] == 0, "greatest: no locks and no runs");
+}
+
 /* A run is put to the task lent: 12 at 0, and every word as it was. */
 static int no_run(size_t words, uint64_t start, uint64_t goal, size_t count, uint8_t step) {
     uint8_t steps[ZP_STEPS + 1];
@@ -611,7 +725,7 @@ static void adding_runs(void) {
            "add_run: task before start before goal before steps before answer");
     expect(lent[ZP_AT_STEPS + 2 * ZP_STEPS] == 2 && lent[ZP_AT_STEPS + 2 * ZP_STEPS + 1] == 1, "add_run: its steps");
     expect(lent[ZP_TASK_WORDS] == UNTOUCHED, "add_run: nothing behind the task's words");
-    expect(no_run(635, 6, 8, 1, 2) && no_run(637, 6, 8, 1, 2), "add_run: 635 and 637 words");
+    expect(no_run(WORD_LESS, 6, 8, 1, 2) && no_run(WORD_MORE, 6, 8, 1, 2), "add_run: a word less and a word more");
     expect(no_run(ZP_TASK_WORDS, 16, 8, 1, 2), "add_run: a start outside");
     expect(no_run(ZP_TASK_WORDS, 6, 16, 1, 2), "add_run: a goal outside");
     expect(no_run(ZP_TASK_WORDS, 6, 8, 1, 3), "add_run: a step that is no action");
@@ -657,6 +771,10 @@ int main(void) {
     names_that_begin_alike();
     greatest_texts();
     adding_runs();
+    reading_locks();
+    solving_under_locks();
+    editing_locks();
+    greatest_file();
     printf(failures == 0 ? "c: every expectation holds\n" : "c: %d expectations failed\n", failures);
     return failures != 0;
 }

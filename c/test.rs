@@ -92,7 +92,7 @@ fn session(task: &mut [u64; TASK_WORDS]) -> i32 {
     failed += expect(list(task, &table, &mut room, &mut answer) == 0 && answer == [0, 0, 1], "list");
     failed += expect(opens(&room, &[224, 7]), "list: what is left");
     failed += expect(edit(task, DELETE, 1, 1, 2, &mut table, &mut answer) == 0 && *task == as_read, "edit: 2 is present");
-    failed += expect(edit(task, 5, 1, 1, 1, &mut table, &mut answer) == 14 && *task == as_read, "edit: no such kind");
+    failed += expect(edit(task, 6, 1, 1, 1, &mut table, &mut answer) == 14 && *task == as_read, "edit: no such kind");
     failed += expect(list(task, &table, &mut room, &mut answer) == 0 && opens(&room, &[97, 224]), "list: as it was");
     // In any other order the numbers 0, 2, 3 and 1 name another cell or another value.
     failed += expect(edit(task, NEED, 2, 3, 1, &mut table, &mut answer) == 0, "edit: in its order");
@@ -106,7 +106,7 @@ const TWO_RUNS: [u8; 45] = [
 ];
 
 /// Where the start of run 1 stands among a task's words.
-const START_OF_1: usize = 101;
+const START_OF_1: usize = 133;
 
 fn runs() -> i32 {
     let (mut answer, mut table) = ([7; TASK_ANSWER_WORDS], [7; TABLE_NUMBERS]);
@@ -145,6 +145,34 @@ fn rejected_steps() -> i32 {
     failed + expect(check(&task, 0, &mut answer) == 0 && opens(&answer, &[0, 0, 4, 2, 1]), "rejected: it runs")
 }
 
+/// Action 2 needs fact 1 under a lock, and each of the two runs has another action before it (02, request 6).
+const LOCKED: [u8; 20] = [1, 2, 3, 2, 4, 2, 1, 10, 2, 1, 7, 0, 7, 2, 9, 7, 1, 7, 2, 8];
+/// The same with its lock on fact 0, which action 2 doesn't need.
+const LOCK_ASTRAY: [u8; 20] = [1, 2, 3, 2, 4, 2, 1, 10, 2, 0, 7, 0, 7, 2, 9, 7, 1, 7, 2, 8];
+
+/// Where the locks of action 2 stand among a task's words.
+const LOCKS_OF_2: usize = 101;
+
+/// Without the lock the shortest list drops the need, 162; with it each of the other actions has to add the fact.
+fn locks() -> i32 {
+    let (mut answer, mut table, mut room) = ([7; TASK_ANSWER_WORDS], [7; TABLE_NUMBERS], [7; LIST_NUMBERS]);
+    let (mut task, mut bytes) = ([0; TASK_WORDS], [7; LOCKED.len()]);
+    let mut failed = expect(read(&LOCKED, &mut answer) == 0, "locks: read");
+    for (word, read) in task.iter_mut().zip(answer.iter().skip(2)) {
+        *word = *read;
+    }
+    let as_read = task;
+    failed += expect(zernoplysk::write(&task, &mut bytes, &mut answer) == 0 && bytes == LOCKED, "locks: the file again");
+    failed += expect(read(&LOCK_ASTRAY, &mut answer) == 18 && opens(&answer, &[18, 7, 0]), "locks: a read's 18");
+    failed += expect(solve(&task, &mut room, &mut answer) == 0 && opens(&room, &[128, 129, 7]), "locks: no need is dropped");
+    failed += expect(apply(&mut task, &[162], &mut answer) == 15 && task == as_read, "locks: a drop is 15");
+    failed += expect(edit(&mut task, NEED, 2, 1, 0, &mut table, &mut answer) == 18 && task == as_read, "locks: a need stays");
+    failed += expect(edit(&mut task, LOCK, 0, 1, 1, &mut table, &mut answer) == 18 && task == as_read, "locks: none on no need");
+    failed += expect(edit(&mut task, LOCK, 2, 1, 0, &mut table, &mut answer) == 0 && task[LOCKS_OF_2] == 0, "locks: cleared");
+    failed += expect(opens(&table[7..], &[1, 162]), "locks: the row without it");
+    failed + expect(edit(&mut task, LOCK, 2, 1, 1, &mut table, &mut answer) == 0 && task == as_read, "locks: set again")
+}
+
 /// The story's texts, once its table is mended (02, request 4; docs/PDDL.md).
 const DOMAIN: &str = "(define (domain stage)\n  (:requirements :strips)\n  (:predicates\n    (f0)\n    (f1)\n    (f2)\n    (f3)\n  )\n  \
 (:action a0\n   :parameters ()\n   :precondition (and\n    (f0)\n   )\n   :effect (and\n    (f1)\n    (f2)\n   )\n  )\n  \
@@ -181,7 +209,7 @@ fn texts(mended: &[u64; TASK_WORDS]) -> i32 {
 fn refused_texts(mended: &[u64; TASK_WORDS]) -> i32 {
     let (mut answer, mut room) = ([7; TASK_ANSWER_WORDS], [7; PROBLEM_BYTES]);
     let mut built = *mended;
-    let mut failed = expect(write_domain(&[0; 635], &mut [], &mut answer) == 12, "texts: 12 before 11");
+    let mut failed = expect(write_domain(&[0; TASK_WORDS - 1], &mut [], &mut answer) == 12, "texts: 12 before 11");
     failed += expect(write_domain(mended, &mut [7; DOMAIN.len() - 1], &mut answer) == 11, "texts: a domain's room too short");
     failed += expect(write_problem(mended, 1, &mut room, &mut answer) == 14, "texts: no such run");
     failed += expect(write_problem(mended, 0, &mut [], &mut answer) == 11, "texts: a problem's room too short");
@@ -205,7 +233,7 @@ fn mended(task: &[u64; TASK_WORDS]) -> [u64; TASK_WORDS] {
 pub extern "C" fn main() -> i32 {
     let mut task = [0; TASK_WORDS];
     let failed = files(&mut task) + lists(&task) + texts(&mended(&task)) + refused_texts(&mended(&task));
-    let failed = failed + session(&mut task) + runs() + rejected_steps();
+    let failed = failed + session(&mut task) + runs() + rejected_steps() + locks();
     say(if failed == 0 { "rust: every expectation holds\n" } else { "rust: expectations failed\n" });
     i32::from(failed != 0)
 }

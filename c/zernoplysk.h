@@ -4,7 +4,7 @@
  * a pointer without `const` may be written as far as its length, and must not overlap what another argument lends.
  * Nothing is kept after the call, nothing is allocated, and every call ends and is safe for any contents and lengths.
  *
- * A task crosses as ZP_TASK_WORDS words, in the order of the ZP_AT_ places. Any 636 words are a task, well formed or
+ * A task crosses as ZP_TASK_WORDS words, in the order of the ZP_AT_ places. Any 668 words are a task, well formed or
  * not; a step above 255 counts as 255. Another number of words is refused with 12, place 0, as the task of zeros. Runs
  * are counted from 0.
  * zp_apply, zp_edit and zp_add_run change the task in the words that it is lent in; a refused call leaves them exactly as
@@ -38,7 +38,8 @@ enum {
     ZP_AT_NEEDS = 3,                              /* a mask of facts for each of the 32 actions */
     ZP_AT_ADDS = ZP_AT_NEEDS + ZP_ACTIONS,
     ZP_AT_DELETES = ZP_AT_ADDS + ZP_ACTIONS,
-    ZP_AT_MANY = ZP_AT_DELETES + ZP_ACTIONS,      /* how many runs, 1 to 8; everything for unused ones is zero */
+    ZP_AT_LOCKS = ZP_AT_DELETES + ZP_ACTIONS,     /* of its needs, those that no list drops (02, request 6) */
+    ZP_AT_MANY = ZP_AT_LOCKS + ZP_ACTIONS,        /* how many runs, 1 to 8; everything for unused ones is zero */
     ZP_AT_STARTS = ZP_AT_MANY + 1,                /* a mask of facts for each of the 8 runs */
     ZP_AT_GOALS = ZP_AT_STARTS + ZP_RUNS,         /* a mask of facts for each run */
     ZP_AT_COUNTS = ZP_AT_GOALS + ZP_RUNS,         /* how many steps each run has */
@@ -58,7 +59,7 @@ enum {
 
     /* A session table, the longest file and list, and room for every listing. */
     ZP_TABLE_NUMBERS = 448,
-    ZP_FILE_BYTES = 21516,
+    ZP_FILE_BYTES = 27660,
     ZP_LIST_NUMBERS = 6,
     ZP_LISTING_BYTES = 986,
 
@@ -71,14 +72,15 @@ enum {
     ZP_ADD = 1,
     ZP_DELETE = 2,
     ZP_START = 3,
-    ZP_GOAL = 4
+    ZP_GOAL = 4,
+    ZP_LOCK = 5
 };
 
 /* The record at a place of the file. Its body is `length` bytes of the file from `start` on. Answer: ZP_RECORD_WORDS. */
 size_t zp_record(const uint8_t *file, size_t file_len, size_t at, uint64_t *answer, size_t answer_len);
 
 /* The task of a file; the place of a refusal is the byte that is wrong (02, request 2), or the file's length where its end is
- * missing. Answer: ZP_TASK_ANSWER_WORDS. */
+ * missing; of 18, a lock on a cell that isn't a need (02, request 6), the record's first. Answer: ZP_TASK_ANSWER_WORDS. */
 size_t zp_read(const uint8_t *file, size_t file_len, uint64_t *answer, size_t answer_len);
 
 /* The task's file into `room`; ZP_FILE_BYTES are always enough. Answer: ZP_REPLY_WORDS. */
@@ -89,7 +91,8 @@ size_t zp_write(const uint64_t *task, size_t task_len, uint8_t *room, size_t roo
  * that can't run does nothing, and the next is tried. Answer: ZP_CHECKED_WORDS. */
 size_t zp_check(const uint64_t *task, size_t task_len, size_t run, uint64_t *answer, size_t answer_len);
 
-/* A list of repair numbers applied at once to the task, in its words. Answer: ZP_CHANGED_WORDS. */
+/* A list of repair numbers applied at once to the task, in its words; 15 also where it drops a locked need. Answer:
+ * ZP_CHANGED_WORDS. */
 size_t zp_apply(uint64_t *task, size_t task_len, const uint16_t *list, size_t list_len, uint64_t *answer,
                 size_t answer_len);
 
@@ -102,8 +105,9 @@ size_t zp_open(const uint64_t *task, size_t task_len, uint16_t *table, size_t ta
                size_t answer_len);
 
 /* One cell set to absent (0) or present (any other number) in the task's words, and its fact's row of the table written
- * afresh. `whose` is the action of a need, an add or a delete, and the run of a start or a goal; 14 if the task has no
- * such action, run or fact. Answer: ZP_CHANGED_WORDS. */
+ * afresh. `whose` is the action of a need, an add, a delete or a lock, and the run of a start or a goal; 14 if the task has
+ * no such action, run or fact; then 18 for a lock set on a cell that isn't a need, or a need cleared under a lock (02, request
+ * 6). Answer: ZP_CHANGED_WORDS. */
 size_t zp_edit(uint64_t *task, size_t task_len, size_t kind, size_t whose, size_t fact, size_t present,
                uint16_t *table, size_t table_len, uint64_t *answer, size_t answer_len);
 
@@ -115,8 +119,8 @@ size_t zp_list(const uint64_t *task, size_t task_len, const uint16_t *table, siz
 size_t zp_listing(const uint8_t *input, size_t input_len, uint8_t *room, size_t room_len, uint64_t *answer,
                   size_t answer_len);
 
-/* The table as PDDL (02, request 4; docs/PDDL.md). The texts carry neither the limit nor any steps: those are passed beside
- * them. */
+/* The table as PDDL (02, request 4; docs/PDDL.md). The texts carry neither the limit nor any steps, which are passed beside
+ * them, nor locks: what is read has none. */
 
 /* The task's domain text into `room`; ZP_DOMAIN_BYTES are always enough. Answer: ZP_REPLY_WORDS. */
 size_t zp_write_domain(const uint64_t *task, size_t task_len, uint8_t *room, size_t room_len, uint64_t *answer,

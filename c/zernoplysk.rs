@@ -6,7 +6,7 @@
 
 pub const ANSWER_TOO_SHORT: usize = 255;
 
-pub const TASK_WORDS: usize = 636;
+pub const TASK_WORDS: usize = 668;
 pub const CHANGED_WORDS: usize = 2;
 pub const REPLY_WORDS: usize = 3;
 pub const PROBLEM_WORDS: usize = 4;
@@ -16,7 +16,7 @@ pub const TASK_ANSWER_WORDS: usize = 2 + TASK_WORDS;
 
 // A session table, the longest file and list, and room for every listing.
 pub const TABLE_NUMBERS: usize = 448;
-pub const FILE_BYTES: usize = 21516;
+pub const FILE_BYTES: usize = 27660;
 pub const LIST_NUMBERS: usize = 6;
 pub const LISTING_BYTES: usize = 986;
 
@@ -30,6 +30,7 @@ pub const ADD: usize = 1;
 pub const DELETE: usize = 2;
 pub const START: usize = 3;
 pub const GOAL: usize = 4;
+pub const LOCK: usize = 5;
 
 extern "C" {
     fn zp_record(
@@ -167,7 +168,7 @@ pub fn record(file: &[u8], at: usize, answer: &mut [u64]) -> usize {
 }
 
 /// The task of a file; the place of a refusal is the byte that is wrong (02, request 2), or the file's length where its end
-/// is missing. Answer: `TASK_ANSWER_WORDS`.
+/// is missing; of 18, a lock on a cell that isn't a need (02, request 6), the record's first. Answer: `TASK_ANSWER_WORDS`.
 pub fn read(file: &[u8], answer: &mut [u64]) -> usize {
     // SAFETY: each pointer is good for its length, and what may be written is lent to this call alone.
     unsafe { zp_read(file.as_ptr(), file.len(), answer.as_mut_ptr(), answer.len()) }
@@ -203,7 +204,8 @@ pub fn check(task: &[u64], run: usize, answer: &mut [u64]) -> usize {
     }
 }
 
-/// A list of repair numbers applied at once to the task, in its words. Answer: `CHANGED_WORDS`.
+/// A list of repair numbers applied at once to the task, in its words; 15 also where it drops a locked need. Answer:
+/// `CHANGED_WORDS`.
 pub fn apply(task: &mut [u64], list: &[u16], answer: &mut [u64]) -> usize {
     // SAFETY: each pointer is good for its length, and what may be written is lent to this call alone.
     unsafe {
@@ -249,8 +251,9 @@ pub fn open(task: &[u64], table: &mut [u16], answer: &mut [u64]) -> usize {
 }
 
 /// One cell set to absent (0) or present (any other number) in the task's words, its fact's row written afresh. `whose` is
-/// the action of a need, an add or a delete, and the run of a start or a goal; 14 if the task has no such action, run or
-/// fact. Answer: `CHANGED_WORDS`.
+/// the action of a need, an add, a delete or a lock, and the run of a start or a goal; 14 if the task has no such action, run
+/// or fact; then 18 for a lock set on a cell that isn't a need, or a need cleared under a lock (02, request 6). Answer:
+/// `CHANGED_WORDS`.
 pub fn edit(
     task: &mut [u64],
     kind: usize,
@@ -341,7 +344,7 @@ pub fn write_problem(task: &[u64], run: usize, room: &mut [u8], answer: &mut [u6
     }
 }
 
-/// The table of a domain text, with this limit, as a task that has no run yet: `add_run` puts the runs to it, and until there
+/// The table of a domain text, without locks and with this limit, as a task that has no run yet: `add_run` puts the runs to it, and until there
 /// is one every other call refuses it with 12. Any text outside the layout gets 17; its place is how many bytes at the
 /// beginning still are the beginning of some domain text. Answer: `TASK_ANSWER_WORDS`.
 pub fn read_domain(text: &[u8], limit: usize, answer: &mut [u64]) -> usize {

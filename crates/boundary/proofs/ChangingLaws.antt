@@ -1,4 +1,4 @@
--- The calls that change the task lent to them: where one was accepted there are 636 words to give it back in. Assumes nothing.
+-- The calls that change the task lent to them: where one was accepted there are 668 words to give it back in. Assumes nothing.
 use mathlib.Core.Bool.{Bool, true, false}
 use mathlib.Core.List.{List}
 use mathlib.Core.Path.{_≡_, refl, ap}

@@ -1,5 +1,5 @@
 // The boundary: every public call as an `extern "C"` function on numbers and slices, for callers in C and in Rust
-// (docs/BOUNDARY.md). A task crosses as 636 words, an answer as words in lent room; where that room is too short nothing
+// (docs/BOUNDARY.md). A task crosses as 668 words, an answer as words in lent room; where that room is too short nothing
 // is called, and the answer is 255. A task that a call changes is lent in and out.
 pub mod texts;
 
@@ -136,8 +136,8 @@ pub extern "C" fn zp_open(task: &[u64], table: &mut [u16], answer: &mut [u64]) -
     give_reply(reply, answer)
 }
 
-// One cell set in the task's words, and its fact's row written afresh. `whose` is the action of a need, an add or a delete, and the run
-// of a start or a goal.
+// One cell set in the task's words, and its fact's row written afresh. `whose` is the action of a need, an add, a delete or a lock (02,
+// request 6), and the run of a start or a goal.
 #[no_mangle]
 pub extern "C" fn zp_edit(
     task: &mut [u64],
