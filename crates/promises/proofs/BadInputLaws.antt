@@ -34,7 +34,7 @@ use Rattle.table.proofs.RefusalLaws.{firstOf-in}
 use Rattle.table.specs.Answer.{Verdict, found, over, hopeless, Permitted}
 use Rattle.table.specs.Join.{joinVerdicts}
 use Rattle.table.specs.Outcomes.{Outcome, refusal, refused, given}
-use Rattle.table.specs.Refusals.{accepted, bytesAfterEnd, notWellFormed, notASession, notThere, listNotPermitted, tooManyRuns}
+use Rattle.table.specs.Refusals.{accepted, bytesAfterEnd, notWellFormed, notASession, notThere, listNotPermitted, tooManyRuns, lockWithoutNeed}
 use Rattle.table.specs.Tasks.{cellsOf, courseOf, formed, WellFormed}
 use Rattle.table.specs.declared.Reply.{Reply}
 use Rattle.table.specs.declared.Task.{Task}
@@ -47,13 +47,13 @@ use Rattle.records.specs.Records.{recordFault, recordAt, wholeRecord, refusedRe
 use Rattle.records.specs.declared.record.Record.{Record}
 use Rattle.taskwriter.specs.Writing.{written}
 
--- A number of document 01's table, or of 02's requests 1 and 4.
+-- A number of document 01's table, or of 02's requests 1, 4 and 6.
 abbrev pub Listed : ℕ → Type 0
-Listed n = n ≤ 17
+Listed n = n ≤ 18
 
--- One that reading gives: 1 to 8, or 16 (02, request 1); or 0.
+-- One that reading gives: 1 to 8, 16 (02, request 1) or 18 (request 6); or 0.
 abbrev pub FileNumber : ℕ → Type 0
-FileNumber n = (n ≤ bytesAfterEnd) ⊎ (n ≡ tooManyRuns)
+FileNumber n = (n ≤ bytesAfterEnd) ⊎ ((n ≡ tooManyRuns) ⊎ (n ≡ lockWithoutNeed))
 
 -- Of two results one is given, and either is right.
 either : {A : Type 0} (Right : A → Type 0) (b : Bool) (x y : A) → Right x → Right y → Right (cond {A = A} b x y)
@@ -66,7 +66,7 @@ fault-number : (s : List ℕ) (at : ℕ) (seen : Seen) → FileNumber (faultAt s
 unfolding faultsAt
 fault-number s at seen =
     firstOf-in FileNumber (faultsAt s at seen) (inl (omega arith))
-    (inl (omega arith), (inl (omega arith), (inl (omega arith), (inl (omega arith), (inl (omega arith), (inl (omega arith), (inl (omega arith), (inr refl, (inl (omega arith), tt)))))))))
+    (inl (omega arith), (inl (omega arith), (inl (omega arith), (inl (omega arith), (inl (omega arith), (inl (omega arith), (inl (omega arith), (inr (inl refl), (inr (inr refl), (inl (omega arith), tt))))))))))
 
 -- What a refused read gives. The byte that it marks (02, request 2) is there to be marked, or the file ends where more has to come.
 pub record BadFile (s : List ℕ) (r : TaskReply) : Type 0 where
@@ -89,7 +89,7 @@ bad-from (trailing c is more e) nonzero = (
   ap (λ (q : TaskReply). q .task) e,
 )
 
--- Bytes that are no well-formed task's file get a number from 1 to 8, or 16, and a task of zeros.
+-- Bytes that are no well-formed task's file get a number from 1 to 8, or 16, or 18, and a task of zeros.
 pub bad-file : (s : List ℕ) (r : TaskReply) → ReadsFile s r → ((t : Task) → WellFormed t → s ≡ fileOf t → ⊥) → BadFile s r
 bad-file s r reads none =
     let bad = bad-from reads (λ ok.
@@ -100,7 +100,7 @@ bad-file s r reads none =
 pub read-number : (s : List ℕ) (r : TaskReply) → ReadsFile s r → Listed (r .number)
 read-number s r reads =
     by-order (r .number) 1 (λ h. omega arith)
-    (λ h. ⊎-elim (λ low. omega arith) (λ same. omega arith) (bad-from reads (λ e. omega arith) .1))
+    (λ h. ⊎-elim (λ low. omega arith) (⊎-elim (λ same. omega arith) (λ same. omega arith)) (bad-from reads (λ e. omega arith) .1))
 
 record-fault : (s : List ℕ) (at : ℕ) → Listed (recordFault s at .number)
 unfolding recordFault
@@ -147,7 +147,7 @@ open-number t s r after a = subst Listed (sym (a .number)) (firstOf-in Listed _ 
 
 pub edit-number : (t : Task) (s : List ℕ) (e : Edit) (r : TaskReply) (after : List ℕ) → Edits t s e r after → Listed (r .number)
 unfolding editRefusal
-edit-number t s e r after a = subst Listed (sym (a .number)) (firstOf-in Listed _ (omega arith) (omega arith, (omega arith, (omega arith, tt))))
+edit-number t s e r after a = subst Listed (sym (a .number)) (firstOf-in Listed _ (omega arith) (omega arith, (omega arith, (omega arith, (omega arith, tt)))))
 
 -- A list that is not permitted is refused at its first wrong number.
 pub bad-list : (t : Task) → WellFormed t → formed t ≡ true → (l : List ℕ) → (Permitted (cellsOf (t .table)) l → ⊥) → (r : TaskReply) → Applies t l r

@@ -1,7 +1,7 @@
 -- Demand 1 of the boundary's functions, said of the functions themselves (`Zp..Gives`: boundary/proofs/Called). What a call gives, o, is the
 -- number returned (.0), the answer's words (.1) and what else was lent to be written: the room or the table (.2), of zp_apply the task's words
 -- (.2), of zp_edit the task's words (.2) and the table (.3). Open Demands first; the functions of 02's request 4: TextsBoundary. Assumes nothing.
-use mathlib.Core.Bool.{false}
+use mathlib.Core.Bool.{true, false}
 use mathlib.Core.List.{List, [], _∷_, _++_}
 use mathlib.Core.Path.{_≡_, sym, ap, _∙_, subst}
 use Prim.Native.Nat.{ℕ, _<_, _≤_}
@@ -26,9 +26,9 @@ use Rattle.boundary.specs.BoundaryCalls.{AnswersReply, HandsRecord, ReadsTask, 
 use Rattle.taskwords.specs.Words.{taskIn, lentBack}
 use Rattle.apply.proofs.ApplyLaws.{applies-unformed, applies-unique}
 use Rattle.apply.specs.Applying.{firstWrong}
-use Rattle.change.specs.Editing.{cellInside}
+use Rattle.change.specs.Editing.{cellInside, leavesLock}
 use Rattle.table.specs.declared.TaskReply.{TaskReply}
-use Rattle.session.proofs.CallLaws.{open-malformed, open-not-a-session, edit-malformed, edit-not-a-session, edit-outside, listed-malformed, listed-not-a-session}
+use Rattle.session.proofs.CallLaws.{open-malformed, open-not-a-session, edit-malformed, edit-not-a-session, edit-outside, edit-locked, listed-malformed, listed-not-a-session}
 use Rattle.session.specs.Calls.{editRefusal}
 use Rattle.session.specs.EditNumbers.{editOf}
 use Rattle.session.specs.Sessions.{inForm}
@@ -88,7 +88,7 @@ pub record AllDefinedThere : Type 0 where
 -- those.
 pub record AnswerRooms : Type 0 where
   pub record-room : (file : List ℕ) (at : ℕ) (answer : List ℕ) (o : Alone) → ZpRecordGives file at answer o → AnswerRoom 6 answer (o .0) (o .1)
-  pub read-room : (file answer : List ℕ) (o : Alone) → ZpReadGives file answer o → AnswerRoom 638 answer (o .0) (o .1)
+  pub read-room : (file answer : List ℕ) (o : Alone) → ZpReadGives file answer o → AnswerRoom 670 answer (o .0) (o .1)
   pub write-room : (ws room answer : List ℕ) (o : Lending) → ZpWriteGives ws room answer o → AnswerRoom 3 answer (o .0) (o .1)
   pub check-room : (ws : List ℕ) (run : ℕ) (answer : List ℕ) (o : Alone) → ZpCheckGives ws run answer o → AnswerRoom 5 answer (o .0) (o .1)
   pub apply-room : (ws list answer : List ℕ) (o : Lending) → ZpApplyGives ws list answer o → AnswerRoom 2 answer (o .0) (o .1)
@@ -130,21 +130,25 @@ pub record BadTable (ws table : List ℕ) : Type 0 where
 pub record BoundaryDemand : Type 0 where
   pub defined : AllDefinedThere
   pub answer-rooms : AnswerRooms
-  -- "Bad files": 1 to 8, or 02's 16, at a byte of the file or, for 1, at its end, and a task of zeros
-  pub bad-files : (file : List ℕ) → ((t : Task) → WellFormed t → file ≡ fileOf t → ⊥) → (answer : List ℕ) → 638 ≤ length answer → (o : Alone)
-      → ZpReadGives file answer o → (0 < o .0) × FileNumber (o .0) × ((place : ℕ) × Marks file (o .0) place × (o .1 ≡ taskAnswer (o .0) place noTask ++ drop 638 answer))
-  -- "tables": of actions (12; another number of words than 636 is none), and of a session (13)
+  -- "Bad files": 1 to 8, or 02's 16 or 18, at a byte of the file or, for 1, at its end, and a task of zeros
+  pub bad-files : (file : List ℕ) → ((t : Task) → WellFormed t → file ≡ fileOf t → ⊥) → (answer : List ℕ) → 670 ≤ length answer → (o : Alone)
+      → ZpReadGives file answer o → (0 < o .0) × FileNumber (o .0) × ((place : ℕ) × Marks file (o .0) place × (o .1 ≡ taskAnswer (o .0) place noTask ++ drop 670 answer))
+  -- "tables": of actions (12; another number of words than 668 is none), and of a session (13)
   pub bad-words : (ws : List ℕ) → formed (taskIn ws) ≡ false → BadWords ws
-  pub other-words : (ws : List ℕ) → (length ws ≡ 636 → ⊥) → BadWords ws
+  pub other-words : (ws : List ℕ) → (length ws ≡ 668 → ⊥) → BadWords ws
   pub bad-tables : (ws table : List ℕ) → WellFormed (taskIn ws) → BadTable ws table
   -- "lists": 15 at the index of the first number that does not ascend or is not permitted
   pub bad-lists : (ws list : List ℕ) → WellFormed (taskIn ws) → (Permitted (cellsOf (taskIn ws .table)) list → ⊥) → (answer : List ℕ)
       → 2 ≤ length answer → (o : Lending) → ZpApplyGives ws list answer o
       → Said (15 ∷ firstWrong (cellsOf (taskIn ws .table)) list ∷ []) answer (o .0) (o .1) × (o .2 ≡ ws)
-  -- "and edits": 14
+  -- "and edits": 14, and after it 18 (02, request 6)
   pub bad-edits : (ws : List ℕ) (kind whose fact present : ℕ) (table : List ℕ) → WellFormed (taskIn ws) → length table ≡ 448
       → cellInside (taskIn ws) (editOf kind whose fact present .cell) ≡ false → (answer : List ℕ) → 2 ≤ length answer → (o : LendingTwo)
       → ZpEditGives ws kind whose fact present table answer o → Said (14 ∷ 0 ∷ []) answer (o .0) (o .1) × ((o .2 ≡ ws) × (o .3 ≡ table))
+  pub locked-edits : (ws : List ℕ) (kind whose fact present : ℕ) (table : List ℕ) → WellFormed (taskIn ws) → length table ≡ 448
+      → cellInside (taskIn ws) (editOf kind whose fact present .cell) ≡ true → leavesLock (taskIn ws) (editOf kind whose fact present) ≡ true
+      → (answer : List ℕ) → 2 ≤ length answer → (o : LendingTwo) → ZpEditGives ws kind whose fact present table answer o
+      → Said (18 ∷ 0 ∷ []) answer (o .0) (o .1) × ((o .2 ≡ ws) × (o .3 ≡ table))
   -- 02, request 1: "14 covers a run that isn't there"
   pub no-such-run : (ws : List ℕ) (run : ℕ) → WellFormed (taskIn ws) → taskIn ws .runs .many ≤ run → (answer : List ℕ) → 5 ≤ length answer
       → (o : Alone) → ZpCheckGives ws run answer o → Said (14 ∷ 0 ∷ 0 ∷ 0 ∷ 0 ∷ []) answer (o .0) (o .1)
@@ -279,8 +283,8 @@ table-bad ws table w =
       list-it = λ h room answer n o g. outcome-said (zp-list-gives ws table room answer o g) 13 (λ y e. e ∙ listed-not-a-session t table room w h) n;
     }
 
-file-bad : (file : List ℕ) → ((t : Task) → WellFormed t → file ≡ fileOf t → ⊥) → (answer : List ℕ) → 638 ≤ length answer → (o : Alone)
-    → ZpReadGives file answer o → (0 < o .0) × FileNumber (o .0) × ((place : ℕ) × Marks file (o .0) place × (o .1 ≡ taskAnswer (o .0) place noTask ++ drop 638 answer))
+file-bad : (file : List ℕ) → ((t : Task) → WellFormed t → file ≡ fileOf t → ⊥) → (answer : List ℕ) → 670 ≤ length answer → (o : Alone)
+    → ZpReadGives file answer o → (0 < o .0) × FileNumber (o .0) × ((place : ℕ) × Marks file (o .0) place × (o .1 ≡ taskAnswer (o .0) place noTask ++ drop 670 answer))
 unfolding ReadsTask
 file-bad file none answer n o g =
     let x = zp-read-gives file answer o g .given n in
@@ -292,8 +296,8 @@ file-bad file none answer n o g =
       (
         y .place,
         subst (λ (m : ℕ). Marks file m (y .place)) (sym number) (bad .marked),
-        x .4 ∙ ap (λ w. w ++ drop 638 answer) (x .2 .2) ∙
-            (λ i. taskAnswer (sym number i) (y .place) (bad .zeros i) ++ drop 638 answer),
+        x .4 ∙ ap (λ w. w ++ drop 670 answer) (x .2 .2) ∙
+            (λ i. taskAnswer (sym number i) (y .place) (bad .zeros i) ++ drop 670 answer),
       ),
     )
 
@@ -323,6 +327,9 @@ boundary-demand = record {
   bad-edits = λ ws kind whose fact present table w h outside answer n o g.
       edited-said ws kind whose fact present table answer n o g 14 (omega arith)
       (edit-outside (taskIn ws) table (editOf kind whose fact present) (well-formed (taskIn ws) w) h outside);
+  locked-edits = λ ws kind whose fact present table w h inside locked answer n o g.
+      edited-said ws kind whose fact present table answer n o g 18 (omega arith)
+      (edit-locked (taskIn ws) table (editOf kind whose fact present) (well-formed (taskIn ws) w) h inside locked);
   no-such-run = λ ws run w past answer n o g.
       answers-said (zp-check-gives ws run answer o g) n (14 ∷ 0 ∷ 0 ∷ 0 ∷ 0 ∷ [])
       (λ words e. e ∙ ap checkedWords (check-outside (taskIn ws) run (well-formed (taskIn ws) w) past));

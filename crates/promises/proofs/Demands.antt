@@ -6,20 +6,23 @@
 -- What is not here, because the check of each crate proves it of each function: the function ends, is safe, and gives a result that its
 -- contract allows, on every input that it asks for. That it asks for nothing: `AsksNothing` below. That its contract allows one result only:
 -- Unique.
-use mathlib.Core.Bool.{Bool, false}
+use mathlib.Core.Bool.{Bool, true, false, true≢false}
 use mathlib.Core.List.{List, [], _∷_}
 use mathlib.Core.Logic.{_↔_}
-use mathlib.Core.Path.{_≡_, sym, ap, _∙_}
+use mathlib.Core.Path.{_≡_, sym, ap, _∙_, subst}
 use Prim.Native.Nat.{ℕ, _<_, _≤_}
 use native.Mathlib.Omega.{arith}
-use lib.ListN.{length, take}
+use lib.ListN.{length, take, drop}
+use lib.Seq.{take-append-seam}
 use Rattle.apply.proofs.ApplyLaws.{applies-unformed, applies-unique}
 use Rattle.apply.proofs.Called.{ApplyGives, apply-gives, apply-asks-nothing}
 use Rattle.apply.proofs.apply.Reads as apply
 use Rattle.apply.specs.Applying.{firstWrong}
-use Rattle.change.specs.Editing.{cellInside}
+use Rattle.change.specs.Editing.{cellInside, leavesLock}
 use Rattle.table.specs.declared.TaskReply.{TaskReply}
 use Rattle.change.specs.declared.Edit.{Edit}
+use Rattle.facts.proofs.Laws.{has-empty}
+use Rattle.facts.specs.Sets.{has}
 use Rattle.listing.proofs.Called.{ListingGives, listing-gives, listing-asks-nothing}
 use Rattle.listing.proofs.CutLaws.{listing-cut}
 use Rattle.listing.proofs.Determined.{listing-unique}
@@ -31,23 +34,25 @@ use Rattle.runcheck.proofs.StateLaws.{checked-report}
 use Rattle.runcheck.proofs.Valid.{valid-zero, zero-valid, checked-zero-valid, valid-checked-zero}
 use Rattle.runcheck.specs.OpenNeeds.{totalOpen, openReport, refusedCheck, controllerAt}
 use Rattle.runcheck.specs.declared.Checked.{Checked}
-use Rattle.session.proofs.CallLaws.{made-unique, open-malformed, open-not-a-session, edit-malformed, edit-not-a-session, edit-outside, listed-malformed, listed-not-a-session}
+use Rattle.session.proofs.CallLaws.{made-unique, open-malformed, open-not-a-session, edit-malformed, edit-not-a-session, edit-outside, edit-locked, listed-malformed, listed-not-a-session}
 use Rattle.session.proofs.Called.{OpenGives, open-gives, open-asks-nothing, EditGives, edit-gives, edit-asks-nothing, ListGives, list-gives, list-asks-nothing}
 use Rattle.session.proofs.StoryLaws.{opening-accepts, story-ends, ends-solved}
 use Rattle.session.proofs.edit.Reads as edit
 use Rattle.session.proofs.list.Reads as list
 use Rattle.session.proofs.open.Reads as opening
-use Rattle.session.specs.Calls.{Story, told-all, then, Made, names}
+use Rattle.session.specs.Calls.{Story, told-all, then, Made}
 use Rattle.session.specs.Sessions.{inForm}
 use Rattle.solve.proofs.Called.{SolveGives, solve-gives, solve-asks-nothing}
 use Rattle.rows.proofs.TableLaws.{stored-limit, stored-unique}
 use Rattle.solve.proofs.solve.Reads as solve
-use Rattle.solve.proofs.Hopeless.{nine-stuck, stuck-nine}
-use Rattle.solve.specs.Stuck.{Stuck}
+use Rattle.solve.proofs.Hopeless.{nine-stuck, stuck-nine, nine-fullest, fullest-nine}
+use Rattle.solve.specs.Stuck.{fullest, Stuck}
 use Rattle.rows.specs.Tables.{rowAt}
 use Rattle.table.proofs.Called.{FormedGives, formed-gives, formed-asks-nothing}
-use Rattle.table.proofs.Formation.{well-formed}
+use Rattle.table.proofs.FlagLaws.{by-order}
+use Rattle.table.proofs.Formation.{well-formed, locks-unused}
 use Rattle.table.proofs.JoinLaws.{formed-inside}
+use Rattle.table.proofs.LockLaws.{locked-out, locked-stands}
 use Rattle.table.proofs.PublishedLaws.{published-first, published-within}
 use Rattle.table.proofs.formed.is_formed.Reads as is-formed
 use Rattle.table.specs.Answer.{Permitted, First, Verdict, Within}
@@ -55,8 +60,8 @@ use Rattle.table.specs.Contracts.{AsksNothing}
 use Rattle.table.specs.Order.{isIn, NotAfter}
 use Rattle.table.specs.Outcomes.{Outcome, refused, answered}
 use Rattle.table.specs.Published.{WorksPublished}
-use Rattle.table.specs.Repairs.{repaired}
-use Rattle.table.specs.Sizes.{maxFacts}
+use Rattle.table.specs.Repairs.{dropNeed, numberOf, repaired}
+use Rattle.table.specs.Sizes.{maxFacts, maxActions}
 use Rattle.table.specs.Strips.{Cells, Course, stateAt, Valid, AllValid}
 use Rattle.table.specs.Tasks.{cellsOf, courseOf, coursesOf, WorksFor, formed, WellFormed, withLimit}
 use Rattle.table.specs.declared.Reply.{Reply}
@@ -75,6 +80,7 @@ use Rattle.taskwriter.proofs.WritingLaws.{written-unformed, written-file}
 use Rattle.taskwriter.proofs.write.Reads as write
 use Rattle.promises.proofs.FileLaws.{read-is-exact, reads-back, writes-back}
 use Rattle.promises.proofs.BadInputLaws.{BadFile, bad-file, check-malformed, check-outside, bad-list, open-refused, edit-refused, write-fair, solve-fair, list-fair, listing-fair}
+use Rattle.promises.proofs.InterlockLaws.{EachPermitted, listed-permitted, applied-permitted}
 use Rattle.promises.proofs.SolvedLaws.{least-length, least-first, accepted-answer, over-exactly, hopeless-exactly, short-exactly, works-cures}
 
 -- A call is refused: its number is not 0.
@@ -121,7 +127,7 @@ pub record BadSession (t : Task) (s : List ℕ) : Type 0 where
 -- call changes no byte or number lent to it."
 pub record Demand1 : Type 0 where
   pub defined : AllDefined
-  -- "Bad files .. get document 01's numbered refusal": 1 to 8, or 02's 16, and a task of zeros; which byte is wrong is a byte of the file, but for
+  -- "Bad files .. get document 01's numbered refusal": 1 to 8, or 02's 16 or 18, and a task of zeros; which byte is wrong is a byte of the file, but for
   -- 1 at its end. Which, and where: `refusal-files` (BenchSheet).
   pub bad-files : (s : List ℕ) (r : TaskReply) → ReadGives s r → ((t : Task) → WellFormed t → s ≡ fileOf t → ⊥) → BadFile s r
   -- "tables": of actions (12), and of a session (13)
@@ -130,9 +136,11 @@ pub record Demand1 : Type 0 where
   -- "lists": 15 at the index of the first number that does not ascend or is not permitted
   pub bad-lists : (t : Task) → WellFormed t → (l : List ℕ) → (Permitted (cellsOf (t .table)) l → ⊥) → (r : TaskReply) → ApplyGives t l r
       → r ≡ record { number = 15; place = firstWrong (cellsOf (t .table)) l; task = t }
-  -- "and edits": 14
+  -- "and edits": 14, and after it 18, "for a lock set on a cell that isn't a need, or a need cleared under a lock" (02, request 6)
   pub bad-edits : (t : Task) → WellFormed t → (s : List ℕ) → length s ≡ 448 → (e : Edit) → cellInside t (e .cell) ≡ false
       → (after : List ℕ) (r : TaskReply) → EditGives t s e r after → (r ≡ record { number = 14; place = 0; task = t }) × (after ≡ s)
+  pub locked-edits : (t : Task) → WellFormed t → (s : List ℕ) → length s ≡ 448 → (e : Edit) → cellInside t (e .cell) ≡ true → leavesLock t e ≡ true
+      → (after : List ℕ) (r : TaskReply) → EditGives t s e r after → (r ≡ record { number = 18; place = 0; task = t }) × (after ≡ s)
   -- 02, request 1: "14 covers a run that isn't there", in a run check too
   pub no-such-run : (t : Task) → WellFormed t → (run : ℕ) → t .runs .many ≤ run → (r : Checked) → CheckGives t run r → r ≡ refusedCheck 14
   -- "a refused call changes no byte or number lent to it"; a refused applying or edit gives the task back
@@ -146,6 +154,10 @@ pub record Demand1 : Type 0 where
   pub apply-changes-nothing : (t : Task) (l : List ℕ) (r : TaskReply) → ApplyGives t l r → Refused (r .number) → r .task ≡ t
 
 -- ---- demand 2
+
+-- The bytes or numbers that a call wrote into the room lent to it.
+abbrev pub wrote : Outcome → List ℕ
+wrote o = take (o .reply .length) (o .room)
 
 -- What an accepted solve of a well-formed task gave.
 pub record Solved (t : Task) (room : List ℕ) (o : Outcome) : Type 0 where
@@ -192,12 +204,12 @@ pub record Demand2 : Type 0 where
       → o ≡ answered (fileOf t) room
   -- both round trips: reading what was written gives the task, writing what was read gives the bytes
   pub read-back : (t : Task) → WellFormed t → (room : List ℕ) (o : Outcome) → WriteGives t room o → o .reply .number ≡ 0
-      → (r : TaskReply) → ReadGives (take (o .reply .length) (o .room)) r → r ≡ acceptedRead t
+      → (r : TaskReply) → ReadGives (wrote o) r → r ≡ acceptedRead t
   pub write-back : (s : List ℕ) (r : TaskReply) → ReadGives s r → r .number ≡ 0
       → (room : List ℕ) → length s ≤ length room → (o : Outcome) → WriteGives (r .task) room o → o ≡ answered s room
-  -- 01: "later bytes can't alter its answer", neither what is read nor what is listed; 02, request 1: 24,000 bytes
-  pub later-bytes : (s : List ℕ) (r q : TaskReply) → ReadGives (take 24000 s) r → ReadGives s q → r ≡ q
-  pub later-bytes-listed : (s room : List ℕ) (o p : Outcome) → ListingGives (take 24000 s) room o → ListingGives s room p → o ≡ p
+  -- 01: "later bytes can't alter its answer", neither what is read nor what is listed; 02, request 6: 28,000 bytes
+  pub later-bytes : (s : List ℕ) (r q : TaskReply) → ReadGives (take 28000 s) r → ReadGives s q → r ≡ q
+  pub later-bytes-listed : (s room : List ℕ) (o p : Outcome) → ListingGives (take 28000 s) room o → ListingGives s room p → o ≡ p
   -- "the list given makes .., no shorter .., and among equals .."
   pub given : (t : Task) → WellFormed t → (room : List ℕ) (o : Outcome) → SolveGives t room o → o .reply .number ≡ 0 → Solved t room o
   -- "refused as over the limit exactly when some permitted list works but none within the limit", in whatever room
@@ -209,7 +221,10 @@ pub record Demand2 : Type 0 where
   -- "before the lent room is looked at": 11 exactly when there is an answer within the limit and the room is shorter
   pub room-too-short : (t : Task) → WellFormed t → (room : List ℕ) (o : Outcome) → SolveGives t room o
       → (o .reply .number ≡ 11) ↔ ((l : List ℕ) × First (WorksFor t) l × (length l ≤ t .table .limit) × (length room < length l))
-  -- 02, request 1: "A solve gives 9 exactly when a run without steps lacks a goal at its start"
+  -- 9 is given exactly when the fullest permitted list, every permitted repair at once, fails; and that is exactly when a run without steps lacks a
+  -- goal at its start, or a run's start lacks a locked need of its first step (02, requests 1 and 6)
+  pub nine-fullest : (t : Task) → WellFormed t → (room : List ℕ) (o : Outcome) → SolveGives t room o
+      → (o .reply .number ≡ 9) ↔ (WorksFor t (fullest (cellsOf (t .table))) → ⊥)
   pub nine-exactly : (t : Task) → WellFormed t → (room : List ℕ) (o : Outcome) → SolveGives t room o → (o .reply .number ≡ 9) ↔ Stuck t
   -- the check of a run counts nothing exactly if the run is valid
   pub nothing-open : (t : Task) → WellFormed t → (run : ℕ) → run < t .runs .many → (r : Checked) → CheckGives t run r
@@ -223,6 +238,23 @@ pub record Demand2 : Type 0 where
   pub published-verdict : (t : Task) (limit : ℕ) (v : Verdict)
       → Within (WorksFor t) limit v ↔ Within (WorksPublished (cellsOf (t .table)) (coursesOf t)) limit v
 
+-- ---- interlocks (02, request 6): "Some needs guard the laser shutter, and no list may drop them."
+
+-- The list leaves every lock of the task: it drops no locked need, and each of them stands in the table with the list applied.
+pub record Guards (t : Task) (l : List ℕ) : Type 0 where
+  pub none-dropped : (a f : ℕ) → cellsOf (t .table) .locks a f ≡ true → isIn l (numberOf f dropNeed a) ≡ false
+  pub stands : (a f : ℕ) → cellsOf (t .table) .locks a f ≡ true → repaired (cellsOf (t .table)) (isIn l) .needs a f ≡ true
+
+-- No list that is answered, listed by a session, or accepted by applying drops a locked need.
+pub record Interlocks : Type 0 where
+  pub answered-list : (t : Task) → WellFormed t → (room : List ℕ) (o : Outcome) → SolveGives t room o → o .reply .number ≡ 0 → Guards t (wrote o)
+  -- whatever numbers stand in the session's table
+  pub listed-list : (t : Task) → WellFormed t → (s room : List ℕ) (o : Outcome) → ListGives t s room o → o .reply .number ≡ 0 → Guards t (wrote o)
+  pub applied-list : (t : Task) → WellFormed t → (l : List ℕ) (r : TaskReply) → ApplyGives t l r → r .number ≡ 0 → Guards t l
+  -- and in the table that applying gives each locked need stands, locked as before
+  pub repaired-table : (t : Task) → WellFormed t → (l : List ℕ) (r : TaskReply) → ApplyGives t l r → r .number ≡ 0 → (a f : ℕ)
+      → cellsOf (t .table) .locks a f ≡ true → (cellsOf (r .task .table) .needs a f ≡ true) × (cellsOf (r .task .table) .locks a f ≡ true)
+
 -- ---- demand 3
 
 -- Edits made one after another, each by a call of `edit`, accepted or refused: from the task t and the table s to u and `end`.
@@ -233,14 +265,16 @@ pub data EditsMade : Task → List ℕ → List Edit → Task → List ℕ → T
 
 -- After an opening that was accepted, and any edits: the end is the task u and the table `end`.
 pub record After (t : Task) (s : List ℕ) (es : List Edit) (u : Task) (end : List ℕ) : Type 0 where
-  -- the task "as the accepted edits make it one after another": each sets exactly its cell (change/specs/Editing), and there is one such
-  pub task : Made t es u
-  pub only : (v : Task) → Made t es v → v ≡ u
+  -- the task "as the accepted edits make it one after another": each sets exactly its cell (change/specs/Editing), and there is one such; and
+  -- the facts that the accepted edits named, in turn
+  pub named : List ℕ
+  pub task : Made t es named u
+  pub only : (fs : List ℕ) (v : Task) → Made t es fs v → (fs ≡ named) × (v ≡ u)
   pub well : WellFormed u
   -- listing and a fresh solve, into equal room, agree in number, place, length and every number of the room
   pub answer : (room : List ℕ) (o p : Outcome) → ListGives u end room o → SolveGives u room p → o ≡ p
   -- rows of facts that no accepted edit named are the numbers that opening wrote
-  pub kept : (f : ℕ) → f < maxFacts → names t es f ≡ false → rowAt end f ≡ rowAt s f
+  pub kept : (f : ℕ) → f < maxFacts → isIn named f ≡ false → rowAt end f ≡ rowAt s f
 
 -- For every well-formed task, every table opened for it and every list of edits, accepted or refused: the session's answer is the fresh
 -- solve's. An edit is any result that its contract allows, so that one that does nothing, or works the first time and later only echoes,
@@ -296,6 +330,8 @@ demand-one = record {
   bad-sessions = bad-session;
   bad-lists = λ t w l bad r g. bad-list t w (well-formed t w) l bad r (apply-gives t l r g);
   bad-edits = λ t w s n e h after r g. edit-refused t s e 14 (omega arith) (edit-outside t s e (well-formed t w) n h) r (edit-gives t s e r after g);
+  locked-edits = λ t w s n e h locked after r g.
+      edit-refused t s e 18 (omega arith) (edit-locked t s e (well-formed t w) n h locked) r (edit-gives t s e r after g);
   no-such-run = λ t w run past r g. check-gives t run r g ∙ check-outside t run (well-formed t w) past;
   write-changes-nothing = λ t room o g. write-fair t room o (write-gives t room o g) .keeps;
   solve-changes-nothing = λ t room o g. solve-fair t room o (solve-gives t room o g) .keeps;
@@ -346,13 +382,16 @@ demand-two = record {
   written-exactly = λ t w room n o g. write-gives t room o g ∙ written-file t room (well-formed t w) n;
   read-back = reads-back;
   write-back = writes-back;
-  later-bytes = λ s r q a b. reads-unique (cut-decides s r .0 (read-gives (take 24000 s) r a)) (read-gives s q b);
+  later-bytes = λ s r q a b. reads-unique (cut-decides s r .0 (read-gives (take 28000 s) r a)) (read-gives s q b);
   later-bytes-listed = λ s room o p a b.
-      listing-unique (listing-cut s room o .0 (listing-gives (take 24000 s) room o a)) (listing-gives s room p b);
+      listing-unique (listing-cut s room o .0 (listing-gives (take 28000 s) room o a)) (listing-gives s room p b);
   given = given-list;
   over-the-limit = λ t w room o g. over-exactly t w room o (solve-gives t room o g);
   none-works = λ t w room o g. hopeless-exactly t w room o (solve-gives t room o g);
   room-too-short = λ t w room o g. short-exactly t w room o (solve-gives t room o g);
+  nine-fullest = λ t w room o g.
+      let s = solve-gives t room o g in
+      (nine-fullest t w room o s, λ h. ap (λ (x : Outcome). x .reply .number) (fullest-nine t w room o s h));
   nine-exactly = λ t w room o g.
       let s = solve-gives t room o g in
       (nine-stuck t w room o s, λ h. ap (λ (x : Outcome). x .reply .number) (stuck-nine t w room o s h));
@@ -366,6 +405,34 @@ demand-two = record {
   published-verdict = λ t. published-within (cellsOf (t .table)) (coursesOf t);
 }
 
+-- an action that is none has no lock
+unlocked-past : (t : Task) → WellFormed t → (a f : ℕ) → t .table .actions ≤ a → cellsOf (t .table) .locks a f ≡ false
+unfolding cellsOf
+unlocked-past t w a f past = ap (λ (m : ℕ). has m f) (locks-unused t w a past) ∙ has-empty f
+
+-- A list of permitted repairs leaves every lock of a well-formed task.
+guards : (t : Task) → WellFormed t → (l : List ℕ) → EachPermitted (cellsOf (t .table)) l → Guards t l
+guards t w l each = record {
+  none-dropped = λ a f locked.
+      by-order a maxActions (locked-out (cellsOf (t .table)) l each a f locked)
+      (λ past. absurd (true≢false (sym locked ∙ unlocked-past t w a f (omega (arith, w .actions-high)))));
+  stands = λ a f locked. locked-stands (cellsOf (t .table)) l each a f locked (w .locks-needs a f locked);
+}
+
+pub interlocks : Interlocks
+interlocks = record {
+  answered-list = λ t w room o g h.
+      let x = given-list t w room o g h in
+      guards t w (wrote o)
+      (subst (EachPermitted (cellsOf (t .table))) (sym (ap wrote (x .shown) ∙ take-append-seam (x .list) (drop (length (x .list)) room))) (x .permitted .each));
+  listed-list = λ t w s room o g h. guards t w (wrote o) (listed-permitted t w s room o (list-gives t s room o g) h);
+  applied-list = λ t w l r g h. guards t w l (applied-permitted t (well-formed t w) l r (apply-gives t l r g) h .each);
+  repaired-table = λ t w l r g h a f locked.
+      let a′ = apply-gives t l r g .applied h in
+      let each = applied-permitted t (well-formed t w) l r (apply-gives t l r g) h .each in
+      (a′ .needs a f ∙ guards t w l each .stands a f locked, a′ .locks a f ∙ locked);
+}
+
 -- Edits made by calls are a story of the session's.
 story : (t : Task) (s : List ℕ) (es : List Edit) (u : Task) (end : List ℕ) → EditsMade t s es u end → Story t s es u end
 story t s [] u end none-left = told-all
@@ -377,8 +444,9 @@ demand-three = record {
   session = λ t w s₀ s r g ok es u end made.
       let done = story-ends t s es u end w (open-gives t s₀ r s g .opened ok .1) (story t s es u end made) in
       record {
+        named = done .named;
         task = done .made;
-        only = λ v m. made-unique t es v u m (done .made);
+        only = λ fs v m. made-unique t es fs (done .named) v u m (done .made);
         well = done .well;
         answer = λ room o p a b. ends-solved done room o p (list-gives u end room o a) (solve-gives u room p b);
         kept = done .kept;

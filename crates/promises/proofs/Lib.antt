@@ -6,6 +6,7 @@ pub mod UniqueBoundary
 pub mod BadInputLaws
 pub mod FileLaws
 pub mod SolvedLaws
+pub mod InterlockLaws
 pub mod Demands
 pub mod TextsDemand
 pub mod BoundaryDemand

@@ -43,7 +43,7 @@ pub record TextsThere : Type 0 where
   pub write-problem-room : (ws : List ℕ) (run : ℕ) (room answer : List ℕ) (o : Lending) → ZpWriteProblemGives ws run room answer o
       → AnswerRoom 3 answer (o .0) (o .1)
   pub read-domain-room : (text : List ℕ) (limit : ℕ) (answer : List ℕ) (o : Alone) → ZpReadDomainGives text limit answer o
-      → AnswerRoom 638 answer (o .0) (o .1)
+      → AnswerRoom 670 answer (o .0) (o .1)
   pub read-problem-room : (text : List ℕ) (facts : ℕ) (answer : List ℕ) (o : Alone) → ZpReadProblemGives text facts answer o
       → AnswerRoom 4 answer (o .0) (o .1)
   pub add-run-room : (ws : List ℕ) (start goal : ℕ) (steps answer : List ℕ) (o : Lending) → ZpAddRunGives ws start goal steps answer o
@@ -56,9 +56,9 @@ pub record TextsThere : Type 0 where
   pub no-such-run : (ws : List ℕ) → WellFormed (taskIn ws) → (run : ℕ) → taskIn ws .runs .many ≤ run → (room answer : List ℕ) → 3 ≤ length answer
       → (o : Lending) → ZpWriteProblemGives ws run room answer o → Said (14 ∷ 0 ∷ 0 ∷ []) answer (o .0) (o .1) × (o .2 ≡ room)
   -- the readers: the words told are of a number and a place as they should be
-  pub domain-exactly-there : (text : List ℕ) (limit : ℕ) (answer : List ℕ) → 638 ≤ length answer → (o : Alone) → ZpReadDomainGives text limit answer o
+  pub domain-exactly-there : (text : List ℕ) (limit : ℕ) (answer : List ℕ) → 670 ≤ length answer → (o : Alone) → ZpReadDomainGives text limit answer o
       → (y : TaskReply) × Exactly (IsDomain limit) text (y .number) (y .place) ×
-      (o .1 ≡ taskAnswer (y .number) (y .place) (y .task) ++ drop 638 answer)
+      (o .1 ≡ taskAnswer (y .number) (y .place) (y .task) ++ drop 670 answer)
   pub problem-exactly-there : (text : List ℕ) (facts : ℕ) → 0 < facts → facts ≤ 64 → (answer : List ℕ) → 4 ≤ length answer → (o : Alone)
       → ZpReadProblemGives text facts answer o
       → (y : ProblemReply) × Exactly (IsProblem facts) text (y .number) (y .place) ×
@@ -98,7 +98,7 @@ texts-there = record {
   domain-exactly-there = λ text limit answer n o g.
       let x = zp-read-domain-gives text limit answer o g .given n in
       let y = x .2 .0 in
-      (y, domain-exactly text limit y (x .2 .1), x .4 ∙ ap (λ w. w ++ drop 638 answer) (x .2 .2));
+      (y, domain-exactly text limit y (x .2 .1), x .4 ∙ ap (λ w. w ++ drop 670 answer) (x .2 .2));
   problem-exactly-there = λ text facts some few answer n o g.
       let x = zp-read-problem-gives text facts answer o g .given n in
       let y = x .2 .0 in

@@ -6,16 +6,16 @@ use mathlib.Core.Logic.{_↔_, _⊎_, inl, inr}
 use mathlib.Core.Path.{_≡_, refl, sym, ap, _∙_, subst}
 use Prim.Native.Nat.{ℕ, suc, _<_, _≤_}
 use native.Mathlib.Omega.{arith}
-use lib.ListN.{length, take, drop}
+use lib.ListN.{length, drop, replicate}
 use lib.Seq.{take-append-seam}
 use Rattle.addrun.proofs.AddingLaws.{added-well}
 use Rattle.addrun.proofs.Called.{AddRunGives, add-run-gives, add-run-asks-nothing}
-use Rattle.addrun.proofs.Together.{accepted-each, together}
+use Rattle.addrun.proofs.Together.{accepted-each, together, unlocked-well, unlocked-valid}
 use Rattle.addrun.proofs.add_run.Reads as add-run
 use Rattle.addrun.specs.Adding.{built, stepsOf}
 use Rattle.apply.proofs.Called.{ApplyGives}
 use Rattle.layout.specs.Beginnings.{Longest}
-use Rattle.pddl.proofs.ReadBack.{reads-problem-once, domain-back, accepted-domain, domain-accepted, domain-cut, domain-tail, domain-of, problem-back, accepted-problem, problem-accepted, problem-cut, problem-tail, problem-of}
+use Rattle.pddl.proofs.ReadBack.{unlocked-text, reads-problem-once, domain-back, accepted-domain, domain-accepted, domain-cut, domain-tail, domain-of, no-locks, problem-back, accepted-problem, problem-accepted, problem-cut, problem-tail, problem-of}
 use Rattle.pddl.specs.Readings.{IsDomain, IsProblem, ReadsDomain, ReadsProblem, withoutRuns, refusedProblem, acceptedProblem, domain, no-size, problem}
 use Rattle.pddl.specs.Readings as readings
 use Rattle.pddl.specs.Texts.{domainText}
@@ -36,15 +36,11 @@ use Rattle.table.proofs.Formation.{well-formed}
 use Rattle.table.proofs.OutcomeLaws.{given-short, given-fits}
 use Rattle.table.specs.Contracts.{AsksNothing}
 use Rattle.table.specs.Outcomes.{Outcome, refused, answered, given}
-use Rattle.table.specs.Tasks.{startOf, goalOf, formed, Shaped, WellFormed}
+use Rattle.table.specs.Tasks.{startOf, goalOf, unlocked, unlockedTask, formed, Shaped, WellFormed}
 use Rattle.table.specs.declared.Task.{Task}
 use Rattle.table.specs.declared.TaskReply.{TaskReply}
 use Rattle.taskformat.specs.Reading.{acceptedRead}
-use Rattle.promises.proofs.Demands.{Refused, demand-two}
-
--- The bytes that a call wrote.
-abbrev pub told : Outcome → List ℕ
-told o = take (o .reply .length) (o .room)
+use Rattle.promises.proofs.Demands.{Refused, wrote, demand-two}
 
 -- ---- "Refusals: 12, 14 and 11 in writing"
 
@@ -93,28 +89,31 @@ pub record Reading : Type 0 where
 -- ---- both round trips, and the task again
 
 pub record BackAgain : Type 0 where
-  -- what was written of a table is read as that table, with the limit passed beside
+  -- what was written of a table is read as that table, with the limit passed beside; "the PDDL texts don't carry locks" (02, request 6), and what
+  -- comes back has none
   pub domain-read-back : (t : Task) → WellFormed t → (room : List ℕ) (o : Outcome) → WriteDomainGives t room o → o .reply .number ≡ 0
-      → (r : TaskReply) → ReadDomainGives (told o) (t .table .limit) r → r ≡ acceptedRead (withoutRuns (t .table))
+      → (r : TaskReply) → ReadDomainGives (wrote o) (t .table .limit) r → r ≡ acceptedRead (withoutRuns (unlocked (t .table)))
+  pub no-locks : (s : List ℕ) (limit : ℕ) (r : TaskReply) → ReadDomainGives s limit r → r .task .table .locks ≡ replicate 32 0
   pub problem-read-back : (t : Task) → WellFormed t → (run : ℕ) → run < t .runs .many → (room : List ℕ) (o : Outcome)
-      → WriteProblemGives t run room o → o .reply .number ≡ 0 → (r : ProblemReply) → ReadProblemGives (told o) (t .table .facts) r
+      → WriteProblemGives t run room o → o .reply .number ≡ 0 → (r : ProblemReply) → ReadProblemGives (wrote o) (t .table .facts) r
       → r ≡ acceptedProblem (startOf (t .runs) run) (goalOf (t .runs) run)
   -- what was read is written as that text, whatever runs were put to it
   pub domain-write-back : (s : List ℕ) (limit : ℕ) (r : TaskReply) → ReadDomainGives s limit r → r .number ≡ 0
       → (u : Task) → WellFormed u → u .table ≡ r .task .table → (room : List ℕ) → length s ≤ length room → (o : Outcome)
       → WriteDomainGives u room o → o ≡ answered s room
-  -- "Steps and L are passed beside it": the table read, and run after run with its start, its goal and its steps, is the task again
-  pub no-run-yet : (t : Task) → built t 0 ≡ withoutRuns (t .table)
+  -- "Steps and L are passed beside it": the table read, and run after run with its start, its goal and its steps, is the task again,
+  -- without its locks
+  pub no-run-yet : (t : Task) → built t 0 ≡ withoutRuns (unlocked (t .table))
   pub one-run-more : (t : Task) → WellFormed t → (i : ℕ) → i < t .runs .many → (r : TaskReply)
       → AddRunGives (built t i) (startOf (t .runs) i) (goalOf (t .runs) i) (stepsOf t i) r → r ≡ acceptedRead (built t (suc i))
-  pub the-task : (t : Task) → WellFormed t → built t (t .runs .many) ≡ t
+  pub the-task : (t : Task) → WellFormed t → built t (t .runs .many) ≡ unlockedTask t
   -- whatever is put together is well formed
   pub run-asks : AsksNothing add-run.Pre
   pub put-together : (t : Task) → Shaped t → (start goal : ℕ) (steps : List ℕ) (r : TaskReply) → AddRunGives t start goal steps r
       → r .number ≡ 0 → WellFormed (r .task)
   -- the whole loop: solved, the list applied, written, read and put together, and the check of every run counts nothing
   pub loop : (t : Task) → WellFormed t → (room : List ℕ) (o : Outcome) → SolveGives t room o → o .reply .number ≡ 0 → (r : TaskReply)
-      → ApplyGives t (told o) r → WellFormed (r .task) → (run : ℕ) → run < r .task .runs .many → (c : Checked)
+      → ApplyGives t (wrote o) r → WellFormed (r .task) → (run : ℕ) → run < r .task .runs .many → (c : Checked)
       → CheckGives (built (r .task) (r .task .runs .many)) run c → c .total ≡ 0
 
 pub record Texts : Type 0 where
@@ -125,8 +124,8 @@ pub record Texts : Type 0 where
 -- ---- the theorem
 
 -- What a call wrote of a text that fits.
-told-text : (text room : List ℕ) → told (answered text room) ≡ text
-told-text text room = take-append-seam text (drop (length text) room)
+wrote-text : (text room : List ℕ) → wrote (answered text room) ≡ text
+wrote-text text room = take-append-seam text (drop (length text) room)
 
 module _ (t : Task) (w : WellFormed t) where
   domain-is : (room : List ℕ) (o : Outcome) → WriteDomainGives t room o → o ≡ given (domainText (t .table)) room
@@ -135,12 +134,12 @@ module _ (t : Task) (w : WellFormed t) where
   problem-is : (run : ℕ) → run < t .runs .many → (room : List ℕ) (o : Outcome) → WriteProblemGives t run room o → o ≡ given (problemOf t run) room
   problem-is run there room o g = write-problem-gives t run room o g ∙ sym (problem-given t room run (given (problemOf t run) room) (well-formed t w) there refl)
 
--- Of what was given, and accepted, the text is told.
-told-given : (text room : List ℕ) (o : Outcome) → o ≡ given text room → o .reply .number ≡ 0 → told o ≡ text
-told-given text room o e ok =
+-- Of what was given, and accepted, the text was written.
+wrote-given : (text room : List ℕ) (o : Outcome) → o ≡ given text room → o .reply .number ≡ 0 → wrote o ≡ text
+wrote-given text room o e ok =
     by-order (length room) (length text)
     (λ h. let n = ap (λ (x : Outcome). x .reply .number) (e ∙ given-short text room h) in absurd (omega arith))
-    (λ h. ap told (e ∙ given-fits text room h) ∙ told-text text room)
+    (λ h. ap wrote (e ∙ given-fits text room h) ∙ wrote-text text room)
 
 writing : Writing
 writing = record {
@@ -216,7 +215,7 @@ reading = record {
 
 -- A text that was read is that of the table that came of it.
 read-text : (s : List ℕ) (limit : ℕ) (r : TaskReply) → ReadsDomain s limit r → r .number ≡ 0 → s ≡ domainText (r .task .table)
-read-text s limit r (domain t d e p) ok = e ∙ ap (λ (x : TaskReply). domainText (x .task .table)) (sym p)
+read-text s limit r (domain t d e p) ok = e ∙ unlocked-text t ∙ ap (λ (x : TaskReply). domainText (x .task .table)) (sym p)
 read-text s limit r (readings.ReadsDomain.outside n never l p) ok =
     let other = ap (λ (x : TaskReply). x .number) p in
     absurd (omega arith)
@@ -226,12 +225,13 @@ unfolding built
 back-again = record {
   domain-read-back = λ t w room o g ok r h.
       domain-back (t .table) (domain-of t w)
-      (subst (λ (l : List ℕ). ReadsDomain l (t .table .limit) r) (told-given (domainText (t .table)) room o (domain-is t w room o g) ok)
-      (read-domain-gives (told o) (t .table .limit) r h));
+      (subst (λ (l : List ℕ). ReadsDomain l (t .table .limit) r) (wrote-given (domainText (t .table)) room o (domain-is t w room o g) ok)
+      (read-domain-gives (wrote o) (t .table .limit) r h));
+  no-locks = λ s limit r g. no-locks (read-domain-gives s limit r g);
   problem-read-back = λ t w run there room o g ok r h.
       problem-back (startOf (t .runs) run) (goalOf (t .runs) run) (w .facts-low) (w .facts-high) (problem-of t w run)
-      (subst (λ (l : List ℕ). ReadsProblem l (t .table .facts) r) (told-given (problemOf t run) room o (problem-is t w run there room o g) ok)
-      (read-problem-gives (told o) (t .table .facts) r h));
+      (subst (λ (l : List ℕ). ReadsProblem l (t .table .facts) r) (wrote-given (problemOf t run) room o (problem-is t w run there room o g) ok)
+      (read-problem-gives (wrote o) (t .table .facts) r h));
   domain-write-back = λ s limit r g ok u w e room n o h.
       let text = read-text s limit r (read-domain-gives s limit r g) ok ∙ ap domainText (sym e) in
       let long = ap length text in
@@ -247,9 +247,10 @@ back-again = record {
       (added-well t start goal steps shaped (sym (ap (λ (x : TaskReply). x .number) e) ∙ ok));
   loop = λ t w room o g ok r a well run there c k.
       let s = demand-two .given t w room o g ok in
-      let list = ap told (s .shown) ∙ told-text (s .list) room in
-      s .cures r (subst (λ (l : List ℕ). ApplyGives t l r) list a) .2 run there c
-      (subst (λ (u : Task). CheckGives u run c) (together (r .task) well) k);
+      let list = ap wrote (s .shown) ∙ wrote-text (s .list) room in
+      let valid = unlocked-valid (r .task) (s .cures r (subst (λ (l : List ℕ). ApplyGives t l r) list a) .1) in
+      let checked = subst (λ (u : Task). CheckGives u run c) (together (r .task) well) k in
+      demand-two .nothing-open (unlockedTask (r .task)) (unlocked-well (r .task) well) run there c checked .1 (valid run there);
 }
 
 pub texts : Texts

@@ -1,13 +1,13 @@
 -- The bench sheet of document 01 as one table: the starred rows, 1 to 11, in the words of the calls' contracts and with the paper's own
--- numbers, and beside them the run check of their tasks and of row 12's; 01's table of refusals, with 02's 16 and 02's places, by small files; and
--- two runs (02, request 1), and steps that can't run (request 3). The tasks are in table/specs/Bench, the files in taskformat/specs/BenchFiles.
-use mathlib.Core.Bool.{false}
+-- numbers, and beside them the run check of their tasks and of row 12's; 01's table of refusals, with 02's 16 and 18 and 02's places, by small
+-- files; and two runs (02, request 1), steps that can't run (request 3), and locked needs (request 6). The tasks are in table/specs/Bench, the files in taskformat/specs/BenchFiles.
+use mathlib.Core.Bool.{true, false}
 use mathlib.Core.List.{List, [], _∷_}
 use mathlib.Core.Path.{_≡_}
 use Prim.Native.Nat.{ℕ, zero, suc}
 use Prim.Native.String.{String}
 use lib.ListN.{length}
-use Rattle.change.specs.declared.Cell.the-variants.{Delete}
+use Rattle.change.specs.declared.Cell.the-variants.{Need, Delete, Lock}
 use Rattle.change.specs.declared.Edit.{Edit}
 use Rattle.text.specs.Ascii.{bytesOf}
 use Rattle.listing.specs.Listing.{ListsInto}
@@ -21,7 +21,7 @@ use Rattle.rows.specs.Tables.{rowAt}
 use Rattle.table.specs.Bench.{task, listingTask, limited, strayTask, goalsAtStart, goalOutOfReach, addsAndDeletes, deletesTheGoal, needsLastFact, pairs}
 use Rattle.table.specs.Order.{_≼_}
 use Rattle.table.specs.Sizes.{maxLimit}
-use Rattle.table.specs.Worked.{twoRuns}
+use Rattle.table.specs.Worked.{twoDeletes, twoRuns, lockedNeed, lockedFirst}
 use Rattle.table.specs.Strips.{stateAt}
 use Rattle.table.specs.Tasks.{cellsOf, courseOf, WorksFor}
 use Rattle.table.specs.declared.Reply.{Reply}
@@ -49,6 +49,8 @@ pub data BenchRow : Type 0 where
   works-later : Task → List ℕ → List ℕ → BenchRow
   -- after one edit of an opened session the listing gives this list, and the row of this fact is untouched
   edits : Task → Edit → List ℕ → ℕ → BenchRow
+  -- an edit of a session is refused with this number, and nothing is changed
+  refuses-edit : Task → Edit → ℕ → BenchRow
 
 -- The row holds: the call's contract allows what the row says, and nothing else. For an edit: whatever opening and the edit may give.
 abbrev pub Stands : BenchRow → Type 0
@@ -62,6 +64,8 @@ Stands (works-later t m l) = WorksFor t m × (m ≼ l → ⊥)
 Stands (edits t e l kept) =
     (s₀ s after : List ℕ) (r₀ : Reply) (r : TaskReply) → Opens t s₀ r₀ s → r₀ .number ≡ 0 → Edits t s e r after
     → (r .number ≡ 0) × ((room : List ℕ) → listed (r .task) after room ≡ given l room) × (rowAt after kept ≡ rowAt s kept)
+Stands (refuses-edit t e n) =
+    (s after : List ℕ) (r : TaskReply) → length s ≡ 448 → Edits t s e r after → (r ≡ record { number = n; place = 0; task = t }) × (after ≡ s)
 
 -- Every row of a list holds.
 pub data AllHold : List BenchRow → Type 0 where
@@ -133,7 +137,7 @@ sheet =
     checks (pairs 6) 0 (openNeeds 6 2 0) ∷
     checks (pairs 7) 0 (openNeeds 7 2 0) ∷ []
 
--- ---- 01's table of refusals, 1 to 8, and 02's 16: small files of four facts, three actions and the limit 3
+-- ---- 01's table of refusals, 1 to 8, and 02's 16 and 18: small files of four facts, three actions and the limit 3
 
 abbrev sized : List ℕ → List ℕ
 sized rest = 1 ∷ 4 ∷ 3 ∷ 3 ∷ rest
@@ -173,6 +177,15 @@ refusalFiles =
     -- 02, request 1: "Kinds 4 to 6 after a kind 9 get 6", of the kind; the order of the others begins anew, and then holds
     reads (sized (9 ∷ 4 ∷ 0 ∷ 0 ∷ [])) 8 (refusedRead 6 5) ∷
     reads (sized (9 ∷ 3 ∷ 0 ∷ 2 ∷ 0 ∷ [])) 9 (refusedRead 6 7) ∷
+    -- 02, request 6: a lock stands "after kind 6 and before kind 7, strictly ascending. After a kind 9 it gets 6 like the other table kinds"
+    reads (sized (4 ∷ 0 ∷ 0 ∷ 10 ∷ 0 ∷ 0 ∷ 6 ∷ 0 ∷ 0 ∷ [])) 13 (refusedRead 6 10) ∷
+    reads (sized (4 ∷ 0 ∷ 0 ∷ 7 ∷ 0 ∷ 10 ∷ 0 ∷ 0 ∷ [])) 12 (refusedRead 6 9) ∷
+    reads (sized (4 ∷ 0 ∷ 0 ∷ 10 ∷ 0 ∷ 0 ∷ 10 ∷ 0 ∷ 0 ∷ [])) 13 (refusedRead 6 11) ∷
+    reads (sized (4 ∷ 0 ∷ 0 ∷ 9 ∷ 10 ∷ 0 ∷ 0 ∷ [])) 11 (refusedRead 6 8) ∷
+    -- 18: a lock on a cell that isn't a need, "at the record's start after 6 and 16", and so after 5
+    reads (sized (4 ∷ 0 ∷ 0 ∷ 10 ∷ 0 ∷ 1 ∷ [])) 10 (refusedRead 18 7) ∷
+    reads (sized (4 ∷ 0 ∷ 1 ∷ 10 ∷ 0 ∷ 1 ∷ 10 ∷ 0 ∷ 0 ∷ [])) 13 (refusedRead 6 11) ∷
+    reads (sized (10 ∷ 0 ∷ 4 ∷ [])) 7 (refusedRead 5 6) ∷
     -- 16: "at its kind byte, for a ninth run"
     reads (sized (9 ∷ 9 ∷ 9 ∷ 9 ∷ 9 ∷ 9 ∷ 9 ∷ 9 ∷ [])) 12 (refusedRead 16 11) ∷
     -- 7: "a 65th step"
@@ -227,6 +240,47 @@ rejectedSteps =
     -- The next is tried, and a step that may run takes its effects, so that the first can run when its turn comes again.
     checks triesTheNext 0 (openNeeds 1 1 0) ∷
     old-total triesTheNext 0 1 ∷ []
+
+-- ---- locked needs (02, request 6): actions 0 and 1 delete fact 0, action 2 needs it, steps 0, 2, 1, 2, start 0; with action 2's need locked, and
+-- that as a file
+
+abbrev pub lockedFile : List ℕ
+lockedFile =
+    1 ∷ 1 ∷ 3 ∷ 6 ∷ 2 ∷ 0 ∷ 4 ∷ 2 ∷ 0 ∷ 6 ∷ 0 ∷ 0 ∷ 6 ∷ 1 ∷ 0 ∷ 10 ∷ 2 ∷ 0 ∷ 7 ∷ 0 ∷ 7 ∷ 2 ∷ 7 ∷ 1 ∷ 7 ∷ 2 ∷ 8 ∷ []
+
+abbrev pub lockedText : String
+lockedText = "task 1 3 6 4\nopen 2 2 0\nset 2\ndrop-delete 0 0\ndrop-delete 1 0\nend\n"
+
+-- The need locked; the need cleared; a lock set where no need is; and one of an action that isn't there.
+abbrev pub lockSet : Edit
+lockSet = record { cell = Lock 2 0; present = true }
+
+abbrev pub needCleared : Edit
+needCleared = record { cell = Need 2 0; present = false }
+
+abbrev pub strayLockSet : Edit
+strayLockSet = record { cell = Lock 0 0; present = true }
+
+abbrev pub lockSetOutside : Edit
+lockSetOutside = record { cell = Lock 3 0; present = true }
+
+abbrev pub lockedNeeds : List BenchRow
+lockedNeeds =
+    reads lockedFile 27 (acceptedRead lockedNeed) ∷
+    -- A run does not look at locks.
+    checks lockedNeed 0 (openNeeds 2 2 0) ∷
+    -- The shortest list drops the need; "no list may drop them": where it is locked, two deletes are dropped.
+    solves twoDeletes (66 ∷ []) ∷
+    solves lockedNeed (0 ∷ 1 ∷ []) ∷
+    lists lockedFile lockedText ∷
+    -- "So 9 .. now also arise in runs with steps": row 8 with its need locked.
+    refuses lockedFirst 9 ∷
+    -- "Edits can set and clear a lock": the row is written afresh, that of another fact is untouched.
+    edits twoDeletes lockSet (0 ∷ 1 ∷ []) 1 ∷
+    -- "18 for a lock set on a cell that isn't a need, or a need cleared under a lock", "at 0 after 14"
+    refuses-edit lockedNeed needCleared 18 ∷
+    refuses-edit twoDeletes strayLockSet 18 ∷
+    refuses-edit twoDeletes lockSetOutside 14 ∷ []
 
 -- ---- the sources' own examples, facts and actions numbered in reading order
 
