@@ -1,6 +1,6 @@
 // The first fault of the record at a place (document 01, "Refusal numbers": "within it 1 (no kind byte), 2, 3, 1 (short
-// body), 4, 5, 6, 7"; 02, request 1: 16 "after 6 and before 7"; 02, request 6: 18 "after 6 and 16"), and which of its bytes is wrong (02,
-// request 2).
+// body), 4, 5, 6, 7"; 02, request 1: 16 "after 6 and before 7"; 02, request 6: 18 "after 6 and 16"), and which of its bytes is
+// wrong (02, request 2).
 use crate::kinds;
 use crate::known::Known;
 use crate::known::last_run;

@@ -1,5 +1,5 @@
-// What the records so far have said in numbers: all of it that a fault looks at, but for a lock's needs (document 01, "The task
-// file"; 02, requests 1 and 6).
+// What the records so far have said in numbers: all of it that a fault looks at; of a lock it looks at the needs too (document 01,
+// "The task file"; 02, requests 1 and 6).
 ghost use mathlib.Core.Path.{_≡_};
 ghost use Prim.Native.Nat.{_-_};
 

@@ -7,7 +7,7 @@ use borrow.Author.Needs.{needs}
 use native.Mathlib.Omega.{arith}
 use denote.Ref.{now}
 use lib.ListN.{length, getD}
-use Rattle.table.specs.Refusals.{Refusal, bytesAfterEnd}
+use Rattle.table.specs.Refusals.{Refusal}
 use Rattle.table.specs.Tasks.{Shaped}
 use Rattle.taskformat.specs.Format.{bodyLength}
 use Rattle.taskformat.specs.Reading.{Seen, Reads, faulty, good, ended, trailing, ReadsFile, kindAt, nextAt, faultAt, refusedRead, acceptedRead}

@@ -1,12 +1,9 @@
 -- `records::fault::is_stray_lock` meets its contract: past the needs there is none. Assumes nothing.
-use mathlib.Core.Bool.{not}
-use mathlib.Core.Path.{_≡_, sym, ap}
 use borrow.Author.Needs.{needs}
 use borrow.Author.Tests.{eq-eqb, ne-eqb}
 use denote.Ref.{now}
 use lib.ListN.{List·getD-eq-default}
 use Rattle.facts.proofs.Laws.{has-empty}
-use Rattle.taskformat.specs.Format.{lockKind}
 use Rattle.taskformat.specs.Reading.{lockStray}
 use Rattle.records.proofs.fault.is_stray_lock.Statement.{statement}
 use Rattle.records.proofs.fault.is_stray_lock.Tie as tie

@@ -1,5 +1,5 @@
 -- `taskfile::seen::after` meets its contract: where the record is not of the sizes they stay. Assumes nothing.
-use mathlib.Core.Path.{sym, ap, _∙_}
+use mathlib.Core.Path.{ap, _∙_}
 use Prim.Native.Nat.{ℕ, _-_}
 use borrow.Author.Needs.{needs}
 use denote.Ref.{now}
