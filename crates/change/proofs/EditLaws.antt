@@ -308,12 +308,12 @@ module _ (t : Task) (e : Edit) (u : Task) (d : EditedTo t e u) where
       d-named : Need a f ≡ e .cell → cellsOf (u .table) .needs a f ≡ true
       d-named same =
           ap (cellValue u) same ∙ d .named ∙
-          under (e .present) (cellsOf (t .table) .locks a f) (ap (λ (c : Cell). lockLeft t c (e .present)) same ∙ clear)
+          under (e .present) (cellsOf (t .table) .locks a f) (ap (λ (c : Cell). lockLeft (t .table) c (e .present)) same ∙ clear)
           (sym (d .others (Lock a f) (λ lock. lock-not-need a f (lock ∙ sym same))) ∙ locked)
 
       t-needs : Lock a f ≡ e .cell → cellsOf (t .table) .needs a f ≡ true
       t-needs same =
-          upon (e .present) (cellsOf (t .table) .needs a f) (ap (λ (c : Cell). lockLeft t c (e .present)) same ∙ clear)
+          upon (e .present) (cellsOf (t .table) .needs a f) (ap (λ (c : Cell). lockLeft (t .table) c (e .present)) same ∙ clear)
           (sym (d .named) ∙ sym (ap (cellValue u) same) ∙ locked)
 
   -- a task with an accepted edit made is well formed
@@ -344,7 +344,7 @@ module _ (t : Task) (e : Edit) (u : Task) (d : EditedTo t e u) where
   unfolding cellValue lockLeft
   edited-unformed left w = pick (e .cell) (e .present) left (d .named) (d .others)
     where
-      pick : (c : Cell) (p : Bool) → lockLeft t c p ≡ true → cellValue u c ≡ p → ((x : Cell) → (x ≡ c → ⊥) → cellValue u x ≡ cellValue t x) → ⊥
+      pick : (c : Cell) (p : Bool) → lockLeft (t .table) c p ≡ true → cellValue u c ≡ p → ((x : Cell) → (x ≡ c → ⊥) → cellValue u x ≡ cellValue t x) → ⊥
       pick (Need a f) p l named others =
           let q = both (not p) (cellsOf (t .table) .locks a f) l in
           false≢true (sym (named ∙ not-true p (q .0)) ∙ w .locks-needs a f (others (Lock a f) (lock-not-need a f) ∙ q .1))

@@ -43,16 +43,16 @@ cellValue t (Goal r f) = courseOf (t .runs) r .goal f
 cellValue t (Lock a f) = cellsOf (t .table) .locks a f
 
 -- 18 (02, request 6): "a lock set on a cell that isn't a need, or a need cleared under a lock": either would leave a lock without a need.
-unfoldable pub lockLeft : Task → Cell → Bool → Bool
-lockLeft t (Need a f) p = not p && cellValue t (Lock a f)
+unfoldable pub lockLeft : Table → Cell → Bool → Bool
+lockLeft t (Need a f) p = not p && cellsOf t .locks a f
 lockLeft t (Add a f) p = false
 lockLeft t (Delete a f) p = false
 lockLeft t (Start r f) p = false
 lockLeft t (Goal r f) p = false
-lockLeft t (Lock a f) p = p && not (cellValue t (Need a f))
+lockLeft t (Lock a f) p = p && not (cellsOf t .needs a f)
 
 abbrev pub leavesLock : Task → Edit → Bool
-leavesLock t e = lockLeft t (e .cell) (e .present)
+leavesLock t e = lockLeft (t .table) (e .cell) (e .present)
 
 -- The edit is made: neither 14 nor 18.
 abbrev pub accepts : Task → Edit → Bool

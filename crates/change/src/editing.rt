@@ -4,11 +4,12 @@ use crate::Cell;
 use crate::Edit;
 use crate::cells;
 use table::Runs;
+use table::Table;
 use table::Task;
 use table::cells::set_in_run;
 use table::repair::Repair;
 ghost use mathlib.Core.Path.{_≡_};
-ghost use Rattle.change.specs.Editing.{edited, cellFact, cellInside, leavesLock};
+ghost use Rattle.change.specs.Editing.{edited, cellFact, cellInside, lockLeft};
 
 // The fact whose row an edit writes afresh.
 pub fn cell_fact(e: Edit) -> usize
@@ -45,19 +46,18 @@ pub fn is_inside(t: Task, e: Edit) -> bool
 }
 
 // Refusal 18 (02, request 6): "a lock set on a cell that isn't a need, or a need cleared under a lock".
-pub fn leaves_lock(t: Task, e: Edit) -> bool
-    ensures { λ r. ⌜ r ≡ leavesLock t e ⌝ }
+pub fn leaves_lock(t: Table, e: Edit) -> bool
+    ensures { λ r. ⌜ r ≡ lockLeft t (e .cell) (e .present) ⌝ }
 {
     let cell = e.cell;
     let present = e.present;
-    let table = t.table;
     match cell {
-        Cell::Need { action, fact } => !present & cells::is_set(&table.locks, action, fact),
+        Cell::Need { action, fact } => !present & cells::is_set(&t.locks, action, fact),
         Cell::Add { action, fact } => false,
         Cell::Delete { action, fact } => false,
         Cell::Start { run, fact } => false,
         Cell::Goal { run, fact } => false,
-        Cell::Lock { action, fact } => present & !cells::is_set(&table.needs, action, fact),
+        Cell::Lock { action, fact } => present & !cells::is_set(&t.needs, action, fact),
     }
 }
 

@@ -6,10 +6,10 @@
 -- What is not here, because the check of each crate proves it of each function: the function ends, is safe, and gives a result that its
 -- contract allows, on every input that it asks for. That it asks for nothing: `AsksNothing` below. That its contract allows one result only:
 -- Unique.
-use mathlib.Core.Bool.{Bool, true, false, true≢false}
+use mathlib.Core.Bool.{Bool, true, false, not, true≢false}
 use mathlib.Core.List.{List, [], _∷_}
 use mathlib.Core.Logic.{_↔_}
-use mathlib.Core.Path.{_≡_, sym, ap, _∙_, subst}
+use mathlib.Core.Path.{_≡_, refl, sym, ap, _∙_, subst}
 use Prim.Native.Nat.{ℕ, _<_, _≤_}
 use native.Mathlib.Omega.{arith}
 use lib.ListN.{length, take, drop}
@@ -18,7 +18,8 @@ use Rattle.apply.proofs.ApplyLaws.{applies-unformed, applies-unique}
 use Rattle.apply.proofs.Called.{ApplyGives, apply-gives, apply-asks-nothing}
 use Rattle.apply.proofs.apply.Reads as apply
 use Rattle.apply.specs.Applying.{firstWrong}
-use Rattle.change.specs.Editing.{cellInside, leavesLock}
+use Rattle.change.proofs.EditLaws.{edited-well, edited-unformed}
+use Rattle.change.specs.Editing.{cellInside, leavesLock, EditedTo}
 use Rattle.table.specs.declared.TaskReply.{TaskReply}
 use Rattle.change.specs.declared.Edit.{Edit}
 use Rattle.facts.proofs.Laws.{has-empty}
@@ -49,7 +50,7 @@ use Rattle.solve.proofs.Hopeless.{nine-stuck, stuck-nine, nine-fullest, fullest
 use Rattle.solve.specs.Stuck.{fullest, Stuck}
 use Rattle.rows.specs.Tables.{rowAt}
 use Rattle.table.proofs.Called.{FormedGives, formed-gives, formed-asks-nothing}
-use Rattle.table.proofs.FlagLaws.{by-order}
+use Rattle.table.proofs.FlagLaws.{and-both, by-order}
 use Rattle.table.proofs.Formation.{well-formed, locks-unused}
 use Rattle.table.proofs.JoinLaws.{formed-inside}
 use Rattle.table.proofs.LockLaws.{locked-out, locked-stands}
@@ -141,6 +142,9 @@ pub record Demand1 : Type 0 where
       → (after : List ℕ) (r : TaskReply) → EditGives t s e r after → (r ≡ record { number = 14; place = 0; task = t }) × (after ≡ s)
   pub locked-edits : (t : Task) → WellFormed t → (s : List ℕ) → length s ≡ 448 → (e : Edit) → cellInside t (e .cell) ≡ true → leavesLock t e ≡ true
       → (after : List ℕ) (r : TaskReply) → EditGives t s e r after → (r ≡ record { number = 18; place = 0; task = t }) × (after ≡ s)
+  -- exactly where the table with that cell set would not be well formed
+  pub lock-left : (t : Task) → WellFormed t → (e : Edit) → cellInside t (e .cell) ≡ true → (u : Task) → EditedTo t e u
+      → (leavesLock t e ≡ true) ↔ (WellFormed u → ⊥)
   -- 02, request 1: "14 covers a run that isn't there", in a run check too
   pub no-such-run : (t : Task) → WellFormed t → (run : ℕ) → t .runs .many ≤ run → (r : Checked) → CheckGives t run r → r ≡ refusedCheck 14
   -- "a refused call changes no byte or number lent to it"; a refused applying or edit gives the task back
@@ -309,6 +313,14 @@ bad-session t w s = record {
   list-it = λ h room o g. list-gives t s room o g ∙ listed-not-a-session t s room w h;
 }
 
+lock-left : (t : Task) → WellFormed t → (e : Edit) → cellInside t (e .cell) ≡ true → (u : Task) → EditedTo t e u
+    → (leavesLock t e ≡ true) ↔ (WellFormed u → ⊥)
+lock-left t w e inside u d = (edited-unformed t e u d, λ bad. pick (leavesLock t e) refl bad)
+  where
+    pick : (b : Bool) → leavesLock t e ≡ b → (WellFormed u → ⊥) → b ≡ true
+    pick true h bad = refl
+    pick false h bad = absurd (bad (edited-well t e u d w (and-both (cellInside t (e .cell)) (not (leavesLock t e)) inside (ap not h))))
+
 pub demand-one : Demand1
 demand-one = record {
   defined = record {
@@ -332,6 +344,7 @@ demand-one = record {
   bad-edits = λ t w s n e h after r g. edit-refused t s e 14 (omega arith) (edit-outside t s e (well-formed t w) n h) r (edit-gives t s e r after g);
   locked-edits = λ t w s n e h locked after r g.
       edit-refused t s e 18 (omega arith) (edit-locked t s e (well-formed t w) n h locked) r (edit-gives t s e r after g);
+  lock-left = lock-left;
   no-such-run = λ t w run past r g. check-gives t run r g ∙ check-outside t run (well-formed t w) past;
   write-changes-nothing = λ t room o g. write-fair t room o (write-gives t room o g) .keeps;
   solve-changes-nothing = λ t room o g. solve-fair t room o (solve-gives t room o g) .keeps;

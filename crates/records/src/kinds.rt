@@ -38,19 +38,20 @@ pub fn is_kind(kind: usize) -> bool
 pub fn position(kind: usize) -> usize
     ensures { λ r. ⌜ r ≡ positionOf kind ⌝ }
 {
-    if kind <= SIZES {
-        return kind;
+    match kind {
+        NONE => 0,
+        SIZES => 1,
+        RUN => 2,
+        START => 3,
+        GOAL => 4,
+        NEED => 5,
+        ADD => 6,
+        DELETE => 7,
+        LOCK => 8,
+        STEP => 9,
+        END => 10,
+        _ => 11,
     }
-    if kind == RUN {
-        return SIZES + 1;
-    }
-    if kind <= DELETE {
-        return kind + 1;
-    }
-    if kind <= END {
-        return kind + 2;
-    }
-    if kind == LOCK { DELETE + 2 } else { LOCK + 1 }
 }
 
 // Need, add, delete or lock: the body is an action and a fact.

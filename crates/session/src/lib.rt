@@ -60,7 +60,7 @@ pub fn edit(t: Task, table: &mut [u16], e: Edit) -> TaskReply
     if !editing::is_inside(t, e) {
         return refuse_edit(t, refusals::NOT_THERE);
     }
-    if editing::leaves_lock(t, e) {
+    if editing::leaves_lock(t.table, e) {
         return refuse_edit(t, refusals::LOCK_WITHOUT_NEED);
     }
     let task = editing::set_cell(t, e);

@@ -1,5 +1,5 @@
 -- Laws of flags: when a join, a meeting or a denial of flags is true; and a choice by the order of two numbers.
-use mathlib.Core.Bool.{Bool, true, false, not, _&&_, _||_, cond, false≢true}
+use mathlib.Core.Bool.{Bool, true, false, not, _&&_, _||_, cond, and-comm, false≢true}
 use mathlib.Core.Logic.{_⊎_, inl, inr}
 use mathlib.Core.Path.{_≡_, refl, sym, ap, _∙_}
 use Prim.Native.Nat.{ℕ, _<_, _≤_}
@@ -46,6 +46,11 @@ and-swap true true c d = refl
 and-swap true false true d = refl
 and-swap true false false d = refl
 and-swap false b c d = refl
+
+-- Three flags, the last two exchanged.
+pub and-exchange : (a b c : Bool) → (a && b && c) ≡ (a && c && b)
+and-exchange true b c = and-comm b c
+and-exchange false b c = refl
 
 -- The larger a flag, the smaller its denial.
 pub not-shrinks : (a b : Bool) → (a ≡ true → b ≡ true) → not b ≡ true → not a ≡ true

@@ -1,12 +1,12 @@
 -- Laws of repairs: a fact is touched only by the repairs whose numbers name it, and more repairs keep a fact right where fewer do.
-use mathlib.Core.Bool.{Bool, true, false, not, _&&_, _||_, and-true, and-false, and-comm, or-false}
+use mathlib.Core.Bool.{Bool, true, false, not, _&&_, _||_, and-true, and-false, or-false}
 use mathlib.Core.List.{List, []}
 use mathlib.Core.Path.{_≡_, refl, sym, ap, _∙_}
 use Prim.Native.Nat.{ℕ, _<_}
 use native.Mathlib.Omega.{arith}
 use borrow.Author.Tests.{ltb-true}
 use lib.Dec.{ltb}
-use Rattle.table.proofs.FlagLaws.{not-shrinks, or-grows, and-grows, same-flag}
+use Rattle.table.proofs.FlagLaws.{and-exchange, not-shrinks, or-grows, and-grows, same-flag}
 use Rattle.table.proofs.RepairNumbers.{kind-cases}
 use Rattle.table.proofs.RunLaws.{SameAt, Eases, sameCourse-refl, right-same, right-eases}
 use Rattle.table.specs.Order.{isIn}
@@ -109,12 +109,8 @@ pub repaired-repairable : (c : Cells) (R : ℕ → Bool) (f k a : ℕ) → k < k
     → repairable (repaired c R) f k a ≡ (repairable c f k a && not (chosen R f k a))
 repaired-repairable c R f k a =
     kind-cases (λ j. repairable (repaired c R) f j a ≡ (repairable c f j a && not (chosen R f j a))) refl
-    (not-or (c .adds a f) (chosen R f addEffect a)) (exchanged (c .needs a f) (not (chosen R f dropNeed a)) (not (c .locks a f))) k
+    (not-or (c .adds a f) (chosen R f addEffect a)) (and-exchange (c .needs a f) (not (chosen R f dropNeed a)) (not (c .locks a f))) k
   where
-    exchanged : (x y z : Bool) → (x && y && z) ≡ (x && z && y)
-    exchanged true y z = and-comm y z
-    exchanged false y z = refl
-
     not-or : (x y : Bool) → not (x || y) ≡ (not x && not y)
     not-or true y = refl
     not-or false y = refl

@@ -8,6 +8,7 @@ use crate::Runs;
 use crate::STEPS;
 use crate::Table;
 use crate::Task;
+ghost use mathlib.Core.Bool.{_&&_};
 ghost use mathlib.Core.Path.{_≡_};
 ghost use denote.Ref.{now};
 ghost use Prim.Native.Nat.{_≤_};
@@ -75,33 +76,36 @@ fn are_within<'a>(
     facts::is_within(every, n)
 }
 
-// "no set has a fact at or above F", "everything for unused actions .. is zero"
+// Whether no set of any action has a fact at or above n, and every lock is on a need: what is left of the locks without the needs is
+// joined in the same pass, so that tables without locks pay little for them.
+fn are_sets_formed<'a>(
+    needs: &'a [u64; ACTIONS],
+    adds: &'a [u64; ACTIONS],
+    deletes: &'a [u64; ACTIONS],
+    locks: &'a [u64; ACTIONS],
+    n: usize,
+) -> bool
+    ensures { λ r. ⌜ r ≡ (everyFrom (setsWithin (now (needs .entry)) (now (adds .entry)) (now (deletes .entry)) n) 0 maxActions && everyBelow (locksFormed (now (needs .entry)) (now (locks .entry))) maxActions) ⌝ }
+{
+    let mut every = 0;
+    let mut stray = 0;
+    for a in 0..ACTIONS {
+        every = every | (needs[a] | adds[a] | deletes[a]);
+        stray = stray | facts::remove(locks[a], needs[a]);
+    }
+    facts::is_within(every, n) & (stray == 0)
+}
+
+// "no set has a fact at or above F", "everything for unused actions .. is zero"; and "A task with a lock on a cell that isn't a need
+// is not well formed" (02, request 6).
 fn are_actions_formed(t: Table) -> bool
     requires { ⌜ t .actions ≤ maxActions ⌝ }
-    ensures { λ r. ⌜ r ≡ everyBelow (actionFormed t) maxActions ⌝ }
+    ensures { λ r. ⌜ r ≡ (everyBelow (actionFormed t) maxActions && everyBelow (locksFormed (t .needs) (t .locks)) maxActions) ⌝ }
 {
     let facts = t.facts;
     let actions = t.actions;
-    are_within(&t.needs, &t.adds, &t.deletes, 0, facts)
+    are_sets_formed(&t.needs, &t.adds, &t.deletes, &t.locks, facts)
         & are_within(&t.needs, &t.adds, &t.deletes, actions, 0)
-}
-
-// Whether every lock is on a need. What is left of the locks without the needs is joined, for the same reason.
-fn are_on_needs<'a>(needs: &'a [u64; ACTIONS], locks: &'a [u64; ACTIONS]) -> bool
-    ensures { λ r. ⌜ r ≡ everyBelow (locksFormed (now (needs .entry)) (now (locks .entry))) maxActions ⌝ }
-{
-    let mut every = 0;
-    for a in 0..ACTIONS {
-        every = every | facts::remove(locks[a], needs[a]);
-    }
-    every == 0
-}
-
-// "A task with a lock on a cell that isn't a need is not well formed" (02, request 6).
-fn are_locks_formed(t: Table) -> bool
-    ensures { λ r. ⌜ r ≡ everyBelow (locksFormed (t .needs) (t .locks)) maxActions ⌝ }
-{
-    are_on_needs(&t.needs, &t.locks)
 }
 
 // Whether every step from `from` on and before `to` is below n. All are compared, as bytes, and none ends the loop early: for the
@@ -149,7 +153,5 @@ pub fn is_formed(t: Task) -> bool
     if !are_runs_formed(t) {
         return false;
     }
-    are_actions_formed(t.table)
-        & are_locks_formed(t.table)
-        & are_steps_formed(t.runs, t.table.actions)
+    are_actions_formed(t.table) & are_steps_formed(t.runs, t.table.actions)
 }

@@ -42,7 +42,7 @@ unfolding positionOf firstPlace fileOrder
 order = omega arith
 
 -- A number that is no kind comes after all kinds.
-pub no-position : (k : ℕ) → lockKind < k → positionOf k ≡ suc (positionOf endKind)
+no-position : (k : ℕ) → lockKind < k → positionOf k ≡ suc (positionOf endKind)
 unfolding positionOf firstPlace fileOrder
 no-position k l =
     rw (

@@ -1,5 +1,5 @@
 -- `change::editing::leaves_lock` meets its contract: each arm is its line of the definition. Assumes nothing.
-use Rattle.change.specs.Editing.{cellValue, lockLeft}
+use Rattle.change.specs.Editing.{lockLeft}
 use Rattle.table.specs.Tasks.{cellsOf}
 use borrow.Author.Needs.{needs}
 use Rattle.change.proofs.editing.leaves_lock.Statement.{statement}
@@ -30,7 +30,7 @@ is-set-requires-2 : tie.Need-is-set-requires-2
 is-set-requires-2 c κs = search needs
 
 returns : tie.Need-returns
-unfolding lockLeft cellValue cellsOf
+unfolding lockLeft cellsOf
 returns c = rw (c .is-set .ensures, c .before .before .before .before .before .cell .given .1)
 
 returns-2 : tie.Need-returns-2
@@ -50,7 +50,7 @@ unfolding lockLeft
 returns-5 c = rw (c .before .cell5 .given .1)
 
 returns-6 : tie.Need-returns-6
-unfolding lockLeft cellValue cellsOf
+unfolding lockLeft cellsOf
 returns-6 c = rw (c .is-set2 .ensures, c .before .before .before .before .before .cell6 .given .1)
 
 pub leaves-lock-spec : {M : Type 1} → statement M

@@ -42,20 +42,17 @@ ranged c = sym (c .before .are-runs-formed .ensures) ∙ not-false (c .before .a
 are-actions-formed-requires : tie.Need-are-actions-formed-requires
 are-actions-formed-requires c κs = let tested = c .before .before in sizes-in (task tested) (sized tested) .3
 
-are-locks-formed-requires : tie.Need-are-locks-formed-requires
-are-locks-formed-requires c κs = search needs
-
 are-steps-formed-requires : tie.Need-are-steps-formed-requires
 are-steps-formed-requires c κs =
-    let tested = c .before .before .before .before in
+    let tested = c .before .before .before in
     let sizes = sizes-in (task tested) (sized tested) in
-    (sizes .6, (sizes .3, counts-fit (task tested) (ranged (c .before .before))))
+    (sizes .6, (sizes .3, counts-fit (task tested) (ranged (c .before))))
 
 returns-3 : tie.Need-returns-3
 unfolding formed stepFormed stepFits
 returns-3 c =
-    let ranges = c .before .before .before in
-    rw (sized (ranges .before .before), ranged ranges, c .before .before .are-actions-formed .ensures, c .before .are-locks-formed .ensures, c .are-steps-formed .ensures)
+    let ranges = c .before .before in
+    rw (sized (ranges .before .before), ranged ranges, c .before .are-actions-formed .ensures, c .are-steps-formed .ensures)
 
 pub is-formed-spec : {M : Type 1} → statement M
 is-formed-spec =
@@ -66,6 +63,5 @@ is-formed-spec =
     are-runs-formed-requires
     returns-2
     are-actions-formed-requires
-    are-locks-formed-requires
     are-steps-formed-requires
     returns-3)
