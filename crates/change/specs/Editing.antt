@@ -7,7 +7,7 @@ use mathlib.Core.Path.{_≡_}
 use Prim.Native.Nat.{ℕ}
 use lib.Dec.{ltb}
 use Rattle.table.specs.Setting.{setIn}
-use Rattle.table.specs.Tasks.{cellsOf, courseOf, Shaped}
+use Rattle.table.specs.Tasks.{cellsOf, courseOf, withLocks, Shaped}
 use Rattle.table.specs.declared.Task.{Task}
 use Rattle.table.specs.declared.Table.{Table}
 use Rattle.table.specs.declared.Runs.{Runs}
@@ -81,9 +81,6 @@ withAdds t sets = record { facts = t .facts; actions = t .actions; limit = t .li
 
 abbrev pub withDeletes : Table → List ℕ → Table
 withDeletes t sets = record { facts = t .facts; actions = t .actions; limit = t .limit; needs = t .needs; adds = t .adds; deletes = sets; locks = t .locks }
-
-abbrev pub withLocks : Table → List ℕ → Table
-withLocks t sets = record { facts = t .facts; actions = t .actions; limit = t .limit; needs = t .needs; adds = t .adds; deletes = t .deletes; locks = sets }
 
 abbrev pub withStarts : Runs → List ℕ → Runs
 withStarts r sets = record { many = r .many; starts = sets; goals = r .goals; counts = r .counts; steps = r .steps }

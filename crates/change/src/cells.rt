@@ -6,7 +6,7 @@ ghost use mathlib.Core.Path.{_≡_};
 ghost use lib.ListN.{getD};
 ghost use Rattle.facts.specs.Sets.{has};
 ghost use Rattle.table.specs.Setting.{setIn};
-ghost use Rattle.change.specs.Editing.{withLocks};
+ghost use Rattle.table.specs.Tasks.{withLocks};
 ghost use Rattle.change.specs.Kinds.{kindSet};
 
 // The table with one fact of an action present or absent in the deletes, adds or needs, by the kind.

@@ -35,9 +35,6 @@ pub unlocked-text : (t : Table) → domainText t ≡ domainText (unlocked t)
 unfolding domainText
 unlocked-text t = refl
 
-pub same-text : (t q : Table) → unlocked t ≡ unlocked q → domainText t ≡ domainText q
-same-text t q h = unlocked-text t ∙ ap domainText h ∙ sym (unlocked-text q)
-
 module _ {limit : ℕ} where
   -- A text says one table, but for the locks.
   pub same-table : (t q : Table) → Domain limit t → Domain limit q → domainText t ≡ domainText q → unlocked t ≡ unlocked q

@@ -1,6 +1,7 @@
 -- The bench sheet of document 01 as one table: the starred rows, 1 to 11, in the words of the calls' contracts and with the paper's own
 -- numbers, and beside them the run check of their tasks and of row 12's; 01's table of refusals, with 02's 16 and 18 and 02's places, by small
--- files; and two runs (02, request 1), steps that can't run (request 3), and locked needs (request 6). The tasks are in table/specs/Bench, the files in taskformat/specs/BenchFiles.
+-- files; and two runs (02, request 1), steps that can't run (request 3), and locked needs (request 6). The tasks are in table/specs/Bench, the
+-- files in taskformat/specs/BenchFiles.
 use mathlib.Core.Bool.{true, false}
 use mathlib.Core.List.{List, [], _∷_}
 use mathlib.Core.Path.{_≡_}

@@ -8,6 +8,8 @@ use lib.ListN.{length, take, drop, replicate}
 use Rattle.table.specs.Refusals.{Check, Refusal, refuseAt, firstOf, accepted, noEnd, unknownKind}
 use Rattle.taskformat.specs.Format.{isKind, bodyLength}
 use Rattle.taskformat.specs.Reading.{kindAt, nextAt, Seen, faultsAt}
+use Rattle.table.specs.declared.Runs.{Runs}
+use Rattle.table.specs.declared.Task.{Task}
 use Rattle.records.specs.declared.record.Record.{Record}
 use Rattle.records.specs.declared.known.Known.{Known}
 
@@ -44,13 +46,20 @@ recordAt s at =
 unfoldable pub bodyOf : List ℕ → ℕ → List ℕ
 bodyOf s at = take (recordAt s at .length) (drop (recordAt s at .start) s)
 
+-- The runs and the task as they were read: the numbers known, and the arrays.
+abbrev pub runsRead : ℕ → (starts goals counts steps : List ℕ) → Runs
+runsRead many starts goals counts steps = record { many = many; starts = starts; goals = goals; counts = counts; steps = steps }
+
+abbrev pub taskRead : Known → (needs adds deletes locks : List ℕ) → Runs → Task
+taskRead k needs adds deletes locks runs = record {
+  table = record { facts = k .facts; actions = k .actions; limit = k .limit; needs = needs; adds = adds; deletes = deletes; locks = locks };
+  runs = runs;
+}
+
 -- The words of the faults. What has been seen, of what is known of it in numbers and the eight arrays.
 abbrev pub seenWith : Known → (needs adds deletes locks starts goals counts steps : List ℕ) → Seen
 seenWith k needs adds deletes locks starts goals counts steps = record {
-  task = record {
-    table = record { facts = k .facts; actions = k .actions; limit = k .limit; needs = needs; adds = adds; deletes = deletes; locks = locks };
-    runs = record { many = k .runs; starts = starts; goals = goals; counts = counts; steps = steps };
-  };
+  task = taskRead k needs adds deletes locks (runsRead (k .runs) starts goals counts steps);
   kind = k .kind;
   body = k .body;
 }

@@ -374,12 +374,8 @@ module _ (col : Column) (r : Course) (s : Choice) (j i : ℕ) (formed : RunForme
       fresh = conflict-fresh;
       allowed = conflict-allowed;
     };
+    empty = λ none l keeps. let m = conflict-meets l keeps in true≢false (sym (m .2) ∙ none (m .0) (m .1));
   }
-
--- An empty conflict: no list helps.
-pub empty-conflict : (col : Column) (rs : Courses) (s q : Choice) → Conflicts col rs s q → ((code : ℕ) → code < perFact → inChoice q code ≡ false)
-    → (l : List ℕ) → KeepsIn col rs l → ⊥
-empty-conflict col rs s q conflict empty l keeps = let m = conflict .meets l keeps in true≢false (sym (m .2) ∙ empty (m .0) (m .1))
 
 -- The sets that the code gathers make a conflict, once the locked needs are out.
 module _ (col : Column) (r : Course) (s : Choice) (j i place end d a n m : ℕ) (formed : RunFormed col r) (missing : Missing col r s j)

@@ -1,5 +1,6 @@
 -- What looking along a run for a missing fact gives, and what looking back from it gives: document 01, "A conflict".
 use mathlib.Core.Bool.{Bool, true, false}
+use mathlib.Core.List.{List}
 use mathlib.Core.Logic.{_↔_}
 use mathlib.Core.Path.{_≡_}
 use Prim.Native.Nat.{ℕ, _+_, _-_, _<_, _≤_}
@@ -8,7 +9,7 @@ use Rattle.table.specs.Repairs.{dropDelete, addEffect, dropNeed}
 use Rattle.table.specs.Sizes.{perFact}
 use Rattle.table.specs.Strips.{Course, one, Right}
 use Rattle.choices.specs.declared.Choice.{Choice}
-use Rattle.search.specs.Columns.{Column}
+use Rattle.search.specs.Columns.{Column, KeepsIn}
 use Rattle.search.specs.declared.narrow.Place.{Place}
 use Rattle.choices.specs.Choices.{inChoice, codeOf}
 use Rattle.search.specs.Searching.{cellsWith, Missing, Conflicts}
@@ -41,10 +42,11 @@ pub data Named (col : Column) (r : Course) (s : Choice) (j : ℕ) : ℕ → Type
   add-between : (i p : ℕ) → LastDelete col (r .step) s j i → i ≤ p + 1 → p < j → Named col r s j (codeOf addEffect (r .step p))
 
 -- q is the conflict of the candidate s at place j: its repairs are those named there, no more and no fewer, and "Every
--- working list that contains the present candidate has one of" them.
+-- working list that contains the present candidate has one of" them. So where it is empty, as locks can make it, no list helps.
 pub record ConflictAt (col : Column) (r : Course) (s : Choice) (j : ℕ) (q : Choice) : Type 0 where
   pub named : (code : ℕ) → code < perFact → (inChoice q code ≡ true) ↔ Named col r s j code
   pub conflicts : Conflicts col (one r) s q
+  pub empty : ((code : ℕ) → code < perFact → inChoice q code ≡ false) → (l : List ℕ) → KeepsIn col (one r) l → ⊥
 
 -- m is the set of the actions of the steps at the places from `start` on and before `end`.
 pub record ActionsOf (step : ℕ → ℕ) (start end : ℕ) (m : ℕ) : Type 0 where

@@ -3,6 +3,7 @@ use mathlib.Core.List.{List, [], _∷_, _++_}
 use Prim.Native.Nat.{ℕ, zero, suc, _+_, _-_, _^_}
 use lib.ListN.{length, set, take, replicate}
 use Rattle.table.specs.Sizes.{maxFacts, maxActions, maxRuns, maxSteps, allSteps, maxLimit}
+use Rattle.table.specs.Tasks.{withLocks}
 use Rattle.table.specs.declared.Task.{Task}
 
 -- An array of n places whose first are l, the others zero.
@@ -32,18 +33,7 @@ task f a l needs adds deletes start goal steps = record {
 
 -- The same table with these locks, for the first actions (02, request 6).
 abbrev pub locking : Task → List ℕ → Task
-locking t locks = record {
-  table = record {
-    facts = t .table .facts;
-    actions = t .table .actions;
-    limit = t .table .limit;
-    needs = t .table .needs;
-    adds = t .table .adds;
-    deletes = t .table .deletes;
-    locks = filled maxActions locks;
-  };
-  runs = t .runs;
-}
+locking t locks = record { table = withLocks (t .table) (filled maxActions locks); runs = t .runs }
 
 -- The same table with a second run (02, request 1).
 abbrev pub secondRun : Task → ℕ → ℕ → List ℕ → Task

@@ -73,17 +73,21 @@ withLimit t l = record {
   runs = t .runs;
 }
 
--- The table, and the task, without its locks: what the PDDL texts carry (02, request 6).
-abbrev pub unlocked : Table → Table
-unlocked t = record {
+-- The table with other locks (02, request 6).
+abbrev pub withLocks : Table → List ℕ → Table
+withLocks t sets = record {
   facts = t .facts;
   actions = t .actions;
   limit = t .limit;
   needs = t .needs;
   adds = t .adds;
   deletes = t .deletes;
-  locks = replicate maxActions 0;
+  locks = sets;
 }
+
+-- The table, and the task, without its locks: what the PDDL texts carry.
+abbrev pub unlocked : Table → Table
+unlocked t = withLocks t (replicate maxActions 0)
 
 abbrev pub unlockedTask : Task → Task
 unlockedTask t = record { table = unlocked (t .table); runs = t .runs }

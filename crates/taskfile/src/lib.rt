@@ -23,7 +23,7 @@ use table::refusals;
 ghost use mathlib.Core.Path.{_≡_};
 ghost use Rattle.taskformat.specs.Lengths.{programRoom};
 ghost use Rattle.taskformat.specs.Reading.{ReadsFile, acceptedRead, refusedRead, noTask};
-ghost use Rattle.taskfile.specs.Numbers.{runsRead, taskRead};
+ghost use Rattle.records.specs.Records.{runsRead, taskRead};
 
 // How much of a file the program reads: longer than any file is, so that later bytes can't alter its answer (document 01,
 // "The listing"; 02, request 6).

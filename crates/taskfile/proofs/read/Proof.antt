@@ -16,7 +16,7 @@ use Rattle.table.specs.declared.Runs.{Runs}
 use Rattle.table.specs.declared.TaskReply.{TaskReply}
 use Rattle.taskformat.proofs.Clear.{Clear, clear}
 use Rattle.records.proofs.FaultLaws.{numbers-decide}
-use Rattle.taskfile.specs.Numbers.{taskRead}
+use Rattle.records.specs.Records.{taskRead}
 use Rattle.taskfile.proofs.ReaderLaws.{one-more, shaped-next, step-has-room}
 use Rattle.taskfile.proofs.read.Statement.{statement}
 use Rattle.taskfile.proofs.read.Tie as tie
