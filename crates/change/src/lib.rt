@@ -4,7 +4,7 @@ pub mod editing;
 
 // Which cell an edit names: a need, an add or a delete, by action and fact; a start or goal fact, by its run (02, request 1); or the
 // lock of a need, by action and fact (02, request 6).
-#[derive(Drop)]
+#[derive(Clone, Copy)]
 pub enum Cell {
     Need { action: usize, fact: usize },
     Add { action: usize, fact: usize },
@@ -15,7 +15,7 @@ pub enum Cell {
 }
 
 // An edit: the cell, and whether it is set to present or absent.
-#[derive(Drop)]
+#[derive(Clone, Copy)]
 pub struct Edit {
     pub cell: Cell,
     pub present: bool,

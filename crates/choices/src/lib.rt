@@ -10,7 +10,7 @@ use facts::{below_mask, count, join, lowest, overlap, remove, with_fact};
 use table::repair::Repair;
 
 // A set of repairs of one fact: the actions whose delete is dropped, that get the effect, whose need is dropped.
-#[derive(Drop)]
+#[derive(Clone, Copy)]
 pub struct Choice {
     pub deletes: u64,
     pub adds: u64,

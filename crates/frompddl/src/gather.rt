@@ -12,7 +12,7 @@ use table::refusals::{ACCEPTED, NOT_WELL_FORMED};
 use table::{RUNS, STEPS, Task, TaskReply};
 
 // The first refusal, or 0 and 0; how many texts were read before it, and the task with their runs.
-#[derive(Drop)]
+#[derive(Clone, Copy)]
 pub(crate) struct Gathered {
     pub(crate) number: usize,
     pub(crate) place: usize,

@@ -2,7 +2,7 @@
 // function stands here: the readers stand in `pddlreader`, the writers in `pddlwriter`.
 
 // What reading a problem text answers: 0, 0 and the run's start and goal, or the refusal's number and place and zeros.
-#[derive(Drop)]
+#[derive(Clone, Copy)]
 pub struct ProblemReply {
     pub number: usize,
     pub place: usize,

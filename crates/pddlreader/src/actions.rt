@@ -6,7 +6,7 @@ use crate::lines::{read_set, try_head};
 use table::{ACTIONS, Table};
 
 // What an action needs, adds and deletes, and the walk's place after it.
-#[derive(Drop)]
+#[derive(Clone, Copy)]
 struct ActionRead {
     cursor: Cursor,
     needs: u64,
@@ -15,7 +15,7 @@ struct ActionRead {
 }
 
 // A table, and the walk's place after its actions.
-#[derive(Drop)]
+#[derive(Clone, Copy)]
 pub(crate) struct TableRead {
     pub(crate) cursor: Cursor,
     pub(crate) table: Table,

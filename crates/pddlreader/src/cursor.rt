@@ -4,7 +4,7 @@ ghost use Rattle.layout.specs.Walking.{reach};
 ghost use Rattle.pddlreader.specs.Cursors.{tried, had_to_stand};
 
 // Where the walk has come to, whether every word stood that had to, and how far the text goes with the layout.
-#[derive(Drop)]
+#[derive(Clone, Copy)]
 pub(crate) struct Cursor {
     pub(crate) good: bool,
     pub(crate) at: usize,
@@ -12,7 +12,7 @@ pub(crate) struct Cursor {
 }
 
 // Whether a word stood, and the walk's place after it.
-#[derive(Drop)]
+#[derive(Clone, Copy)]
 pub(crate) struct Tried {
     pub(crate) taken: bool,
     pub(crate) cursor: Cursor,

@@ -10,14 +10,14 @@ use pddlwords::{Word, action_head, delete_line, fact_line};
 use table::FACTS;
 
 // A set of facts, and the walk's place after its lines.
-#[derive(Drop)]
+#[derive(Clone, Copy)]
 pub(crate) struct SetRead {
     pub(crate) cursor: Cursor,
     pub(crate) set: u64,
 }
 
 // How many facts there are, and the walk's place after their lines.
-#[derive(Drop)]
+#[derive(Clone, Copy)]
 pub(crate) struct Counted {
     pub(crate) cursor: Cursor,
     pub(crate) facts: usize,

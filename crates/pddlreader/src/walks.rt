@@ -6,7 +6,7 @@ use crate::cursor::{Cursor, expect, had_to_stand};
 use crate::lines::{read_count, read_set, try_line};
 
 // A run's start and goal, and the walk's place after the text.
-#[derive(Drop)]
+#[derive(Clone, Copy)]
 pub(crate) struct RunRead {
     pub(crate) cursor: Cursor,
     pub(crate) start: u64,

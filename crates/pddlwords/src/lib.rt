@@ -11,7 +11,7 @@ use room::{put, put_word};
 const ROOM: usize = 64;
 
 // A word is the first `len` of the bytes.
-#[derive(Drop)]
+#[derive(Clone, Copy)]
 pub struct Word {
     pub bytes: [u8; ROOM],
     pub len: usize,

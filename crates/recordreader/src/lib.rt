@@ -8,7 +8,7 @@ ghost use Rattle.recordreader.specs.Places.{place_after};
 use records::record::{Record, body_at, record_at};
 use table::refusals;
 
-#[derive(Drop)]
+#[derive(Clone, Copy)]
 pub struct Reader<'a> {
     pub file: &'a [u8],
     pub at: usize,

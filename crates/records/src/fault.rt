@@ -11,7 +11,7 @@ use crate::{kinds, parts};
 use table::{ACTIONS, FACTS, LIMIT, RUNS, STEPS, refusals};
 
 // The first fault of a record: its number and its place; 0 and 0 where it is good.
-#[derive(Drop)]
+#[derive(Clone, Copy)]
 pub struct Fault {
     pub number: usize,
     pub place: usize,

@@ -4,7 +4,7 @@ ghost use Rattle.std.specs.Prelude.{◌≡◌, ◌-◌};
 
 // All but the arrays: the sizes, how many runs are open, how many steps the one that was opened last has, and the last
 // record's kind and body.
-#[derive(Drop)]
+#[derive(Clone, Copy)]
 pub struct Known {
     pub facts: usize,
     pub actions: usize,

@@ -8,7 +8,7 @@ use table::refusals;
 
 // Number and place 0 with the kind, where the body stands and how long it is, and the next place; or the refusal's
 // number and the place asked, and zeros.
-#[derive(Drop)]
+#[derive(Clone, Copy)]
 pub struct Record {
     pub number: usize,
     pub place: usize,

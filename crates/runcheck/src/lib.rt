@@ -9,7 +9,7 @@ use table::{STEPS, Task, refusals};
 
 // What a run check answers: 0 and 0, or the refusal; the total of open needs, the first step that has one, counted
 // from 1, and its lowest fact; all zero if there is none.
-#[derive(Drop)]
+#[derive(Clone, Copy)]
 pub struct Checked {
     pub number: usize,
     pub place: usize,
@@ -19,7 +19,7 @@ pub struct Checked {
 }
 
 // What the steps taken so far come to: how many open needs, the first step that has one, and its lowest fact.
-#[derive(Drop)]
+#[derive(Clone, Copy)]
 struct Tally {
     total: usize,
     step: usize,

@@ -38,7 +38,7 @@ const STARTS: usize = 7;
 const GOALS: usize = 8;
 
 // A set of repairs, if there is any that is as asked for.
-#[derive(Drop)]
+#[derive(Clone, Copy)]
 pub struct Found {
     pub any: bool,
     pub choice: Choice,

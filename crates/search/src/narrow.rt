@@ -10,7 +10,7 @@ use choices::Choice;
 use table::{ALL_STEPS, STEPS};
 
 // A place, and how many repairs are left there.
-#[derive(Drop)]
+#[derive(Clone, Copy)]
 struct Place {
     at: usize,
     left: usize,

@@ -17,7 +17,7 @@ pub const OVER: usize = 7;
 pub const HOPELESS: usize = 8;
 
 // A row while it is written.
-#[derive(Drop)]
+#[derive(Clone, Copy)]
 struct Filling {
     places: [u16; ROW_PLACES],
 }

@@ -11,7 +11,7 @@ use search::row;
 use table::{LIMIT, ROW_PLACES, Reply};
 
 // What the rows so far come to: does one say 8, does one say 7, the sum of the lengths, and the joined list as long as an answer can be.
-#[derive(Drop)]
+#[derive(Clone, Copy)]
 pub(crate) struct Tally {
     pub(crate) hopeless: bool,
     pub(crate) over: bool,

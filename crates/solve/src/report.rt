@@ -17,7 +17,7 @@ use table::{ROW, ROW_PLACES, Reply, Task, refusal, refusals};
 
 // What the rows come to: does one say 8, the lowest fact whose row says 7 (their number where there is none), and the sum
 // of the lengths.
-#[derive(Drop)]
+#[derive(Clone, Copy)]
 struct Sum {
     hopeless: bool,
     beyond: usize,

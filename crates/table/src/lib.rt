@@ -40,7 +40,7 @@ pub const UNUSED: u16 = 65535;
 
 // What each action needs, adds and deletes, and which of its needs are locked (02, request 6), a mask of facts each, with the sizes
 // and the limit.
-#[derive(Drop)]
+#[derive(Clone, Copy)]
 pub struct Table {
     pub facts: usize,
     pub actions: usize,
@@ -53,7 +53,7 @@ pub struct Table {
 
 // The known runs: how many there are; of each what holds at its start, what must hold at its end and how many steps it has;
 // and the steps of all, those of run i from place 64i on.
-#[derive(Drop)]
+#[derive(Clone, Copy)]
 pub struct Runs {
     pub many: usize,
     pub starts: [u64; RUNS],
@@ -62,14 +62,14 @@ pub struct Runs {
     pub steps: [u8; ALL_STEPS],
 }
 
-#[derive(Drop)]
+#[derive(Clone, Copy)]
 pub struct Task {
     pub table: Table,
     pub runs: Runs,
 }
 
 // What a call answers beside what it writes: 0 and 0, or the refusal's number and place; and how much it wrote.
-#[derive(Drop)]
+#[derive(Clone, Copy)]
 pub struct Reply {
     pub number: usize,
     pub place: usize,
@@ -78,7 +78,7 @@ pub struct Reply {
 
 // What a call that gives a task answers: 0, 0 and that task, or the refusal's number and place and the task that a refusal
 // gives (a read: a task of zeros; applying and editing: the task given).
-#[derive(Drop)]
+#[derive(Clone, Copy)]
 pub struct TaskReply {
     pub number: usize,
     pub place: usize,
@@ -97,7 +97,7 @@ pub fn refusal(number: usize) -> Reply
 }
 
 // Every size and stride of the code, to be compared with the definitions' in one contract.
-#[derive(Drop)]
+#[derive(Clone, Copy)]
 pub struct Constants {
     pub facts: usize,
     pub actions: usize,

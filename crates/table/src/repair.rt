@@ -5,7 +5,7 @@ ghost use Rattle.table.specs.Repairs.{numbered, fact_of, kind_of, action_of};
 use crate::{ACTIONS, FACTS, UNUSED};
 
 // One repair: the fact, the kind of repair, and the action whose cell it changes.
-#[derive(Drop)]
+#[derive(Clone, Copy)]
 pub struct Repair {
     pub fact: usize,
     pub kind: usize,
