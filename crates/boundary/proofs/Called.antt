@@ -5,7 +5,7 @@ use mathlib.Core.List.{List}
 use Prim.Native.Nat.{ℕ}
 use denote.Ref.{Bor}
 use Rattle.table.proofs.ContractLaws.{call_keeps}
-use Rattle.table.specs.Contracts.{Call, AsksNothing}
+use Rattle.table.specs.Asks.{Call, AsksNothing}
 use Rattle.boundary.proofs.zp_record.Reads as zp-record
 use Rattle.boundary.proofs.zp_read.Reads as zp-read
 use Rattle.boundary.proofs.zp_write.Reads as zp-write

@@ -2,7 +2,7 @@
 use mathlib.Core.List.{List}
 use Prim.Native.Nat.{ℕ}
 use Rattle.table.proofs.ContractLaws.{call_keeps}
-use Rattle.table.specs.Contracts.{Call, AsksNothing}
+use Rattle.table.specs.Asks.{Call, AsksNothing}
 use Rattle.table.specs.Outcomes.{Outcome}
 use Rattle.listing.proofs.listing.Reads as listing
 use Rattle.listing.specs.Listing.{ListsInto}

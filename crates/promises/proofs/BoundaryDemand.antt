@@ -35,7 +35,7 @@ use Rattle.session.specs.Sessions.{in_form}
 use Rattle.table.proofs.FlagLaws.{by_order}
 use Rattle.table.proofs.Formation.{well_formed}
 use Rattle.table.specs.Answer.{Permitted}
-use Rattle.table.specs.Contracts.{AsksNothing}
+use Rattle.table.specs.Asks.{AsksNothing}
 use Rattle.table.specs.Outcomes.{Outcome, refusal, refused}
 use Rattle.table.specs.Tasks.{cells_of, formed, WellFormed}
 use Rattle.table.specs.declared.Reply.{Reply}

@@ -56,7 +56,7 @@ use Rattle.table.proofs.LockLaws.{locked_out, locked_stands}
 use Rattle.table.proofs.PublishedLaws.{published_first, published_within}
 use Rattle.table.proofs.formed.is_formed.Reads as is_formed_lem
 use Rattle.table.specs.Answer.{Permitted, First, Verdict, Within}
-use Rattle.table.specs.Contracts.{AsksNothing}
+use Rattle.table.specs.Asks.{AsksNothing}
 use Rattle.table.specs.Order.{is_in, NotAfter}
 use Rattle.table.specs.Outcomes.{Outcome, refused, answered}
 use Rattle.table.specs.Published.{WorksPublished}

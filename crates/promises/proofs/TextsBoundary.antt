@@ -19,7 +19,7 @@ use Rattle.pddl.specs.Readings.{IsDomain, IsProblem, no_size}
 use Rattle.pddl.specs.declared.ProblemReply.{ProblemReply}
 use Rattle.pddlwriter.proofs.WritingLaws.{domain_unformed, problem_unformed, problem_missing}
 use Rattle.table.proofs.Formation.{well_formed}
-use Rattle.table.specs.Contracts.{AsksNothing}
+use Rattle.table.specs.Asks.{AsksNothing}
 use Rattle.table.specs.Tasks.{formed, WellFormed}
 use Rattle.table.specs.declared.TaskReply.{TaskReply}
 use Rattle.taskwords.proofs.AnsweringLaws.{answers_said}

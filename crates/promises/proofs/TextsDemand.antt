@@ -34,7 +34,7 @@ use Rattle.solve.proofs.Called.{SolveGives}
 use Rattle.table.proofs.FlagLaws.{by_order}
 use Rattle.table.proofs.Formation.{well_formed}
 use Rattle.table.proofs.OutcomeLaws.{given_short, given_fits}
-use Rattle.table.specs.Contracts.{AsksNothing}
+use Rattle.table.specs.Asks.{AsksNothing}
 use Rattle.table.specs.Outcomes.{Outcome, refused, answered, given}
 use Rattle.table.specs.Tasks.{start_of, goal_of, unlocked, unlocked_task, formed, Shaped, WellFormed}
 use Rattle.table.specs.declared.Task.{Task}

@@ -14,7 +14,7 @@ use types.Logic.{Logic}
 use prog.Memory.{Memory}
 use prog.Routine.{Routine}
 use Rattle.table.proofs.ContractLaws.{call_keeps}
-use Rattle.table.specs.Contracts.{Call, AsksNothing}
+use Rattle.table.specs.Asks.{Call, AsksNothing}
 use Rattle.records.specs.Records.{record_at, body_of}
 use Rattle.records.specs.declared.record.Record.{Record}
 use Rattle.recordreader.specs.contracts.body as body

@@ -4,7 +4,7 @@ use mathlib.Core.List.{List}
 use mathlib.Core.Path.{◌≡◌}
 use Prim.Native.Nat.{ℕ}
 use Rattle.table.proofs.ContractLaws.{call_keeps}
-use Rattle.table.specs.Contracts.{Call, AsksNothing}
+use Rattle.table.specs.Asks.{Call, AsksNothing}
 use Rattle.records.proofs.record.record_at.Reads as record-at
 use Rattle.records.proofs.record.body_at.Reads as body_at
 use Rattle.records.specs.Records.{record_at, body_of}

@@ -2,7 +2,7 @@
 use mathlib.Core.Path.{◌≡◌}
 use Prim.Native.Nat.{ℕ}
 use Rattle.table.proofs.ContractLaws.{call_keeps}
-use Rattle.table.specs.Contracts.{Call, AsksNothing}
+use Rattle.table.specs.Asks.{Call, AsksNothing}
 use Rattle.table.specs.declared.Task.{Task}
 use Rattle.runcheck.proofs.check_run.Reads as check
 use Rattle.runcheck.specs.OpenNeeds.{checked}

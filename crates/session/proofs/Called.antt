@@ -5,7 +5,7 @@ use mathlib.Core.Path.{◌≡◌}
 use Prim.Native.Nat.{ℕ}
 use Rattle.change.specs.declared.Edit.{Edit}
 use Rattle.table.proofs.ContractLaws.{call_keeps}
-use Rattle.table.specs.Contracts.{Call, AsksNothing}
+use Rattle.table.specs.Asks.{Call, AsksNothing}
 use Rattle.table.specs.Outcomes.{Outcome}
 use Rattle.table.specs.declared.Reply.{Reply}
 use Rattle.table.specs.declared.Task.{Task}

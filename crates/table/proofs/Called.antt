@@ -3,7 +3,7 @@ use mathlib.Core.Bool.{Bool}
 use mathlib.Core.Path.{◌≡◌}
 use Rattle.table.proofs.ContractLaws.{call_keeps}
 use Rattle.table.proofs.formed.is_formed.Reads as is_formed_lem
-use Rattle.table.specs.Contracts.{Call, AsksNothing}
+use Rattle.table.specs.Asks.{Call, AsksNothing}
 use Rattle.table.specs.Tasks.{formed}
 use Rattle.table.specs.declared.Task.{Task}
 

@@ -1,6 +1,6 @@
 -- What a contract promises of every call, a call keeps. Assumes nothing.
 use mathlib.Core.Path.{subst}
-use Rattle.table.specs.Contracts.{Call}
+use Rattle.table.specs.Asks.{Call}
 
 -- Where the contract says M of what it is given and of what it leaves, each call that was given i and gave o has M i o.
 pub call_keeps : {K A R B I O : Type 0} {Post : K → A → R → B → Type 0} {gets : A → I} {gives : R → B → O} (M : I → O → Type 0)

@@ -12,7 +12,7 @@ pub mod Tasks
 -- the calls
 pub mod Refusals
 pub mod Outcomes
-pub mod Contracts
+pub mod Asks
 -- sizes, counting and lists; one cell set; the passes that test a task
 pub mod Sizes
 pub mod Counting

@@ -3,7 +3,7 @@
 use mathlib.Core.List.{List}
 use Prim.Native.Nat.{ℕ}
 use Rattle.table.proofs.ContractLaws.{call_keeps}
-use Rattle.table.specs.Contracts.{Call, AsksNothing}
+use Rattle.table.specs.Asks.{Call, AsksNothing}
 use Rattle.taskfile.proofs.read.Reads as read
 use Rattle.taskformat.specs.Reading.{ReadsFile}
 use Rattle.table.specs.declared.TaskReply.{TaskReply}
