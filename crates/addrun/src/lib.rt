@@ -1,4 +1,7 @@
 // Putting one run more to a task (02, request 4): the start and the goal of a problem text, and the steps that are passed beside it.
+
+#![tactic(auto)]
+
 ghost use Rattle.std.specs.Prelude.{◌≡◌, ◌+◌, ◌<◌, ◌≤◌, length};
 ghost use Rattle.std.proofs.lemmas.List.Edits.{sets};
 ghost use Rattle.table.specs.Sizes.{max_runs, max_steps, all_steps};

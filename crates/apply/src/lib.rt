@@ -1,4 +1,7 @@
 // Applying a list of repairs (document 01, "The model and its run"): refusals 12 and 15, else all cells of the list at once.
+
+#![tactic(auto)]
+
 ghost use Rattle.std.specs.Prelude.{◌&&◌, ◌≡◌, ◌-◌, ◌<◌, ltb, leb, length, get_or};
 ghost use Rattle.table.specs.Tasks.{cells_of};
 ghost use Rattle.apply.specs.Applying.{wrong_at, first_wrong, Applies};

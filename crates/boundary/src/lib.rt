@@ -1,6 +1,9 @@
 // The boundary: every public call as an `extern "C"` function on numbers and slices, for callers in C and in Rust
 // (docs/BOUNDARY.md). A task crosses as 668 words, an answer as words in lent room; where that room is too short nothing
 // is called, and the answer is 255. A task that a call changes is lent in and out.
+
+#![tactic(auto)]
+
 pub mod texts;
 
 ghost use Rattle.boundary.specs.BoundaryCalls.{HandsRecord, ReadsTask, WritesTask, ChecksRun, AppliesList, SolvesTask, OpensSession, EditsSession, ListsSession, ListsInput};

@@ -1,4 +1,7 @@
 // Changing a task by one cell: an edit (document 01, "The session table"), and what applying a list shares with it.
+
+#![tactic(auto)]
+
 pub mod cells;
 pub mod editing;
 

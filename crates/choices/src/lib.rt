@@ -1,4 +1,7 @@
 // Sets of repairs of one fact: one repair more, two as one, what two share, one without another, and a set's codes in turn.
+
+#![tactic(auto)]
+
 ghost use Rattle.std.specs.Prelude.{◌≡◌, ℕ, ◌-◌, ◌*◌, ◌<◌, length};
 ghost use Rattle.table.specs.Sizes.{kinds, per_kind};
 ghost use Rattle.choices.specs.Choices.{code_of, list_of};

@@ -1,4 +1,7 @@
 // Sets of facts as u64 masks (01, "What to write where"): total functions, each equal to its definition in specs/Sets.antt.
+
+#![tactic(auto)]
+
 ghost use Rattle.std.specs.Prelude.{◌≡◌};
 ghost use Rattle.facts.specs.Sets as sets;
 

@@ -1,6 +1,9 @@
 // The program: reads PDDL texts from standard input (02, request 4; docs/PDDL.md), a domain text and its problem texts, and directly behind
 // them a task file, of which only the limit and the steps are taken. It writes the task file of what they say together, which has no locks
 // (02, request 6), or the refusal.
+
+#![tactic(auto)]
+
 mod gather;
 mod split;
 mod together;

@@ -1,4 +1,7 @@
 // The listing of an input: its text, written into lent room (document 01, "The listing"; 02, request 1).
+
+#![tactic(auto)]
+
 ghost use Rattle.std.specs.Prelude.{◌≡◌, ◌≤◌, length};
 ghost use Rattle.table.specs.Sizes.{max_limit, max_runs};
 ghost use Rattle.table.specs.Outcomes.{Outcome, given};

@@ -1,5 +1,8 @@
 // Reading the PDDL texts (02, request 4; docs/PDDL.md): one walk along the layout, word by word. It goes on where a word is missing that
 // had to stand, and then takes nothing any more: so the code is one line after another, and one test at the end decides.
+
+#![tactic(auto)]
+
 mod actions;
 mod cursor;
 mod lines;

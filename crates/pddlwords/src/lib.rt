@@ -1,4 +1,7 @@
 // The numbered words of the PDDL texts (docs/PDDL.md), byte by byte: what the readers compare with and the writers put.
+
+#![tactic(auto)]
+
 ghost use Rattle.std.specs.Prelude.{◌++◌, ◌≡◌, ◌+◌, ◌%◌, ◌≤◌, length};
 ghost use Rattle.room.specs.Placing.{last_place, Placed};
 ghost use Rattle.text.specs.Text.{digit_zero};

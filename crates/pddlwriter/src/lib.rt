@@ -1,4 +1,7 @@
 // Writing a task's domain text and the problem text of each run (02, request 4; docs/PDDL.md).
+
+#![tactic(auto)]
+
 mod lines;
 mod texts;
 

@@ -1,4 +1,7 @@
 // Lent room. Past the room a byte is only counted, so that the same functions measure a text and write it.
+
+#![tactic(auto)]
+
 ghost use Rattle.std.specs.Prelude.{[], ◌∷◌, ◌+◌, ◌<◌, ◌≤◌, length};
 ghost use Rattle.room.specs.Placing.{last_place, Placed};
 

@@ -1,5 +1,8 @@
 // Writing rows: one fact's afresh, and all of them (document 01, "The session table"). What stands after the rows is left
 // alone.
+
+#![tactic(auto)]
+
 pub mod copying;
 pub mod wrong;
 

@@ -1,4 +1,7 @@
 // The run check (document 01, "The run check"; 02, request 1: it names its run; request 3: it follows the controller).
+
+#![tactic(auto)]
+
 ghost use Rattle.std.specs.Prelude.{◌≡◌, ◌+◌, ◌*◌, ◌<◌, ◌≤◌};
 ghost use Rattle.table.specs.Sizes.{max_facts, max_steps};
 ghost use Rattle.table.specs.Tasks.{WellFormed, cells_of, count_of, course_of};

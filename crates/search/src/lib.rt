@@ -1,5 +1,8 @@
 // The least repair list of one fact: its row of the session table (document 01, "The session table" and the conflict of
 // "The model and its run").
+
+#![tactic(auto)]
+
 mod bound;
 mod conflict;
 mod gap;

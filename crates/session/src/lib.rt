@@ -1,4 +1,7 @@
 // The edit session: opening, editing and listing (document 01, "The session table").
+
+#![tactic(auto)]
+
 pub mod edits;
 pub mod form;
 

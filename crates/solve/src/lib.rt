@@ -1,4 +1,7 @@
 // The answer: the rows of the wrong facts joined, read against the limit and the room (document 01, demand 2).
+
+#![tactic(auto)]
+
 mod join;
 pub mod report;
 

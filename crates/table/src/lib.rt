@@ -1,5 +1,8 @@
 // The action table, the runs and the task by value (document 01, "Sizes" and "The model and its run"; 02, request 1); the
 // meaning of them is in specs/.
+
+#![tactic(auto)]
+
 pub mod cells;
 pub mod formed;
 pub mod permitted;

@@ -1,4 +1,7 @@
 // Reading the task file (document 01, "The task file"; 02, requests 1 and 6): one pass over the records, with what they have said so far.
+
+#![tactic(auto)]
+
 mod seen;
 mod store;
 

@@ -1,4 +1,7 @@
 // Writing the task file (document 01, "The task file"; 02, requests 1 and 6).
+
+#![tactic(auto)]
+
 mod file;
 mod kinds;
 mod sections;

@@ -1,6 +1,9 @@
 // The program: reads a task file from standard input and writes its repaired table as PDDL (02, request 4; docs/PDDL.md): the domain
 // text, which does not carry the locks (02, request 6), and directly behind it the problem text of each run, in order. Where the file or its
 // solve is refused it writes the listing.
+
+#![tactic(auto)]
+
 mod texts;
 
 ghost use Rattle.std.specs.Prelude.{◌≤◌};

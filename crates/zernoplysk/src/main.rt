@@ -1,4 +1,7 @@
 // The program: reads a task file from standard input and writes its listing (document 01, "The listing").
+
+#![tactic(auto)]
+
 ghost use Rattle.std.specs.Prelude.{take};
 ghost use Rattle.listing.specs.Listing.{ListsInto};
 ghost use Rattle.zernoplysk.specs.Printing.{Prints};
