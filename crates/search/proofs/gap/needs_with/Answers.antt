@@ -1,0 +1,10 @@
+-- `search::gap::needs_with` reads the need of an action with the candidate applied.
+use mathlib.Core.Path.{sym}
+use Rattle.search.specs.Columns.{column_in}
+use Rattle.search.proofs.ColumnLaws.{needs_mask}
+use Rattle.search.proofs.gap.needs_with.Goals as goal
+
+pub returns : goal.returns
+returns c =
+    rw (c.contains.ensures, c.remove.ensures)
+    (sym (needs_mask (column_in c.args.col.now) c.args.s c.args.a c.requires))

@@ -1,0 +1,13 @@
+-- `search::least::some_shortest` tries the lengths in turn: when it comes to a length, every list has at least so many.
+use mathlib.Core.List.{List}
+use Prim.Native.Nat.{ℕ, ◌+◌, ◌-◌, ◌≤◌}
+use lib.ListN.{length}
+use Rattle.table.specs.Sizes.{max_row}
+use Rattle.search.specs.Columns.{column_in, KeepsIn, courses_in}
+use Rattle.search.proofs.least.some_shortest.Given as goal
+
+abbrev pub invariant-loop-left : goal.invariant-loop-left
+invariant-loop-left l = (l.left ≤ max_row + 1) × ((l : List ℕ) → KeepsIn (column_in l.col) (courses_in (column_in l.col) l.counts l.steps) l → l.left ≤ length l)
+
+abbrev pub decreases-loop-left : goal.decreases-loop-left
+decreases-loop-left l = max_row + 1 - l.left

@@ -1,0 +1,10 @@
+-- `solve::solve` meets its contract: a task that is not well formed is refused; else the rows of the wrong facts are joined in order of fact, and
+-- what they come to is the verdict over all permitted lists. Assumes nothing.
+use Rattle.solve.proofs.JoinedLaws.{Joining}
+use Rattle.solve.proofs.solve.Given as goal
+
+abbrev pub invariant-loop-left : goal.invariant-loop-left
+invariant-loop-left l = Joining l.t l.left l.joined
+
+abbrev pub decreases-loop-left : goal.decreases-loop-left
+decreases-loop-left l = l.left

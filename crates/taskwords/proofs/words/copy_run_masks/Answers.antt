@@ -1,0 +1,11 @@
+-- `copy_run_masks`: the room has a place for each of the runs.
+use mathlib.Core.Path.{◌≡◌}
+use borrow.Author.Rules.{rules}
+use lib.ListN.{length}
+use Rattle.table.specs.Sizes.{max_runs}
+use Rattle.taskwords.proofs.words.copy_run_masks.Goals as goal
+
+pub returns : goal.returns
+returns c =
+    let whole : length c.args.masks.now ≡ max_runs = search rules in
+    rw whole at c.copy_masks.ensures

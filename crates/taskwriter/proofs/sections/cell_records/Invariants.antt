@@ -1,0 +1,13 @@
+-- `cell_records`: the cells of one action after another.
+use lib.ListN.{get_or}
+use Prim.Native.Nat.{◌-◌}
+use Rattle.taskwriter.specs.Pieces.{action_records}
+use Rattle.room.proofs.Gathering.{Gathering}
+use Rattle.taskwriter.proofs.sections.cell_records.Given as goal
+
+abbrev pub invariant-loop-action : goal.invariant-loop-action
+invariant-loop-action l =
+    Gathering (λ a. action_records l.facts l.actions a (get_or l.initial.room a 0)) l.sets l.at l.room l.kind l.next l.action
+
+abbrev pub decreases-loop-action : goal.decreases-loop-action
+decreases-loop-action l = l.sets - l.action

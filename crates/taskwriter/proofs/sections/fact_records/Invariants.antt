@@ -1,0 +1,12 @@
+-- `fact_records`: one record for each fact of the set.
+use Prim.Native.Nat.{◌-◌}
+use Rattle.room.proofs.Gathering.{Gathering}
+use Rattle.taskwriter.specs.Pieces.{fact_record}
+use Rattle.taskwriter.proofs.sections.fact_records.Given as goal
+
+abbrev pub invariant-loop-fact : goal.invariant-loop-fact
+invariant-loop-fact l =
+    Gathering (fact_record l.facts l.initial.room) l.set l.at l.room l.kind l.next l.fact
+
+abbrev pub decreases-loop-fact : goal.decreases-loop-fact
+decreases-loop-fact l = l.set - l.fact
