@@ -21,7 +21,7 @@ returns-then-adds-lt-PER_KIND c =
     let adds = c.next_action-adds in
     let skip = c.passed in
     next_here args.s add_effect args.from skip.result adds.result (omega arith) skip.ensures adds.ensures
-    c.code_of_lem.result c.code_of_lem.ensures (no-delete) c.if-adds-lt-PER_KIND.true
+    c.code_of.result c.code_of.ensures (no-delete) c.if-adds-lt-PER_KIND.true
 
 pub returns-then-needs-lt-PER_KIND : goal.returns-then-needs-lt-PER_KIND
 returns-then-needs-lt-PER_KIND c =

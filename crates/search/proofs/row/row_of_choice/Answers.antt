@@ -33,7 +33,7 @@ loop-code-preserved c =
       c.next_in-code-in-loop-code.ensures.within,
       c.next_in-code-in-loop-code.ensures.present,
       below_more c.args.f c.args.s here.code c.next_in-code-in-loop-code.result here.row.places c.row_with-row.result.places
-          below here.invariant.2 (here.invariant.1 below) fits (c.row_with-row.ensures ∙ ap (row_with here.row.places) c.number_of_lem.ensures)
+          below here.invariant.2 (here.invariant.1 below) fits (c.row_with-row.ensures ∙ ap (row_with here.row.places) c.number_of.ensures)
           c.next_in-code-in-loop-code.ensures,
     )
 
