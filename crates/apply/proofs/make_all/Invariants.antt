@@ -6,7 +6,7 @@ use Rattle.change.specs.Kinds.{one_by_one}
 use Rattle.apply.proofs.make_all.Given as goal
 
 abbrev pub invariant-loop-i : goal.invariant-loop-i
-invariant-loop-i l = (l.initial.i ≡ length l.list) × (l.i ≤ length l.list) × (l.after ≡ one_by_one l.i-end l.list l.i)
+invariant-loop-i l = (l.i-end ≡ length l.list) × (l.i ≤ length l.list) × (l.after ≡ one_by_one l.initial.after l.list l.i)
 
 abbrev pub decreases-loop-i : goal.decreases-loop-i
 decreases-loop-i l = length l.list - l.i

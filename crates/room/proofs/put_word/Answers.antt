@@ -24,4 +24,4 @@ shape_of-room c = length_kept c.loop-i.invariant
 
 pub returns : goal.returns
 returns c =
-    rw (gather_itself c.args.word.now) c (all_placed c.loop-i.invariant (search rules))
+    rw (gather_itself c.args.word.now) at (all_placed c.loop-i.invariant (search rules))

@@ -1,5 +1,5 @@
 -- `put_word`: one byte after another.
-use mathlib.Core.List.{◌∷◌}
+use mathlib.Core.List.{[], ◌∷◌}
 use Prim.Native.Nat.{◌-◌}
 use lib.ListN.{length, get_or}
 use Rattle.room.proofs.Gathering.{Gathering}
@@ -7,7 +7,7 @@ use Rattle.room.proofs.put_word.Given as goal
 
 abbrev pub invariant-loop-i : goal.invariant-loop-i
 invariant-loop-i l =
-    Gathering (λ k. get_or l.i-end k 0 ∷ []) (length l.i-end) l.at l.room l.word l.next l.i
+    Gathering (λ k. get_or l.word k 0 ∷ []) (length l.word) l.initial.room l.room l.at l.next l.i
 
 abbrev pub decreases-loop-i : goal.decreases-loop-i
-decreases-loop-i l = l.initial.i - l.i
+decreases-loop-i l = l.i-end - l.i

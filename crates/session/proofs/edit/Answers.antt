@@ -2,6 +2,7 @@
 use mathlib.Core.Bool.{true, not}
 use mathlib.Core.Path.{◌≡◌, sym, ap, ◌∙◌, subst}
 use borrow.Author.Rules.{rules}
+use borrow.Author.Tests.{not-true}
 use native.Mathlib.Omega.{arith}
 use Rattle.change.proofs.EditLaws.{edited_exactly, edited_well}
 use Rattle.change.specs.Editing.{edited, cell_inside, leaves_lock, accepts}
@@ -36,7 +37,7 @@ returns-then-not-is_inside c =
     rw c.refuse_edit-then-not-is_inside.ensures
     (edits_refused a.t a.table.now a.e not_there (omega arith)
     (edit_outside a.t a.table.now a.e (well_formed a.t (well)) c.if-table-ne-SESSION_PLACES.false
-    (sym inside.ensures ∙ c.if-not-is_inside.true)))
+    (sym inside.ensures ∙ not-true inside.result c.if-not-is_inside.true)))
 
 pub returns-then-leaves_lock : goal.returns-then-leaves_lock
 returns-then-leaves_lock c =

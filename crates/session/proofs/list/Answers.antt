@@ -2,6 +2,7 @@
 use mathlib.Core.Bool.{true}
 use mathlib.Core.Path.{◌≡◌, sym, ◌∙◌}
 use borrow.Author.Rules.{rules}
+use borrow.Author.Tests.{not-true}
 use Rattle.table.proofs.OutcomeLaws.{refused_told}
 use Rattle.table.proofs.Formation.{told_formed, told_unformed}
 use Rattle.table.specs.Refusals.{not_well_formed, not_aSession}
@@ -24,7 +25,7 @@ returns-then-not-is_in_form c =
     let good = c.is_in_form in
     let a = c.args in
     refused_told not_aSession c.refusal-then-not-is_in_form.result a.room.now (listed a.t a.table.now a.room.now) c.refusal-then-not-is_in_form.ensures
-    (listed_not_a_session a.t a.table.now a.room.now (well) (sym good.ensures ∙ c.if-not-is_in_form.true))
+    (listed_not_a_session a.t a.table.now a.room.now (well) (sym good.ensures ∙ not-true good.result c.if-not-is_in_form.true))
 
 pub report-requires : goal.report-requires
 report-requires c =

@@ -1,4 +1,5 @@
 use mathlib.Core.Path.{◌≡◌, refl, ◌∙◌}
+use borrow.Author.Tests.{not-true, not-false}
 use lib.ListN.{set}
 use Rattle.pddl.specs.Trees.{no_sets, first_action}
 use Rattle.pddlreader.specs.Cursors.{walk_from}
@@ -15,7 +16,7 @@ returns-then-not-head c =
     let table = c.loop-action.table in
     first ∙ c.loop-action.invariant.0 ∙
     no_more a.limit a.facts a.s.now c.loop-action.action table.needs table.adds table.deletes c.loop-action.cursor
-    c.loop-action-test.true c.try_head-head.ensures (c.if-not-head.true) ∙
+    c.loop-action-test.true c.try_head-head.ensures (not-true c.try_head-head.result.taken c.if-not-head.true) ∙
     same_table a.s.now c.try_head-head.result.cursor table c.loop-action.invariant.1
 
 pub loop-action-preserved : goal.loop-action-preserved
@@ -24,7 +25,7 @@ loop-action-preserved c =
     let table = c.loop-action.table in (
       c.loop-action.invariant.0 ∙
           next_read a.limit a.facts a.s.now c.loop-action.action table.needs table.adds table.deletes c.loop-action.cursor
-          c.loop-action-test.true c.try_head-head.ensures (c.if-not-head.false)
+          c.loop-action-test.true c.try_head-head.ensures (not-false c.try_head-head.result.taken c.if-not-head.false)
           c.read_action-next.result c.read_action-next.ensures,
       (c.loop-action.invariant.1.0, c.loop-action.invariant.1.1, refl, c.loop-action.invariant.1.3),
     )

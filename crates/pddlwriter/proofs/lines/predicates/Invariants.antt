@@ -5,7 +5,7 @@ use Rattle.pddl.specs.Texts.{fact_line}
 use Rattle.pddlwriter.proofs.lines.predicates.Given as goal
 
 abbrev pub invariant-loop-fact : goal.invariant-loop-fact
-invariant-loop-fact l = Gathering fact_line l.initial.room l.at l.room l.facts l.next l.fact
+invariant-loop-fact l = Gathering fact_line l.facts l.initial.room l.room l.at l.next l.fact
 
 abbrev pub decreases-loop-fact : goal.decreases-loop-fact
-decreases-loop-fact l = l.initial.room - l.fact
+decreases-loop-fact l = l.facts - l.fact

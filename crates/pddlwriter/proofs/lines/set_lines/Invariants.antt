@@ -5,7 +5,7 @@ use Rattle.pddlwriter.specs.Pieces.{line_in}
 use Rattle.pddlwriter.proofs.lines.set_lines.Given as goal
 
 abbrev pub invariant-loop-fact : goal.invariant-loop-fact
-invariant-loop-fact l = Gathering (line_in l.facts l.initial.room) l.set l.at l.room l.deleted l.next l.fact
+invariant-loop-fact l = Gathering (line_in l.deleted l.set) l.facts l.initial.room l.room l.at l.next l.fact
 
 abbrev pub decreases-loop-fact : goal.decreases-loop-fact
-decreases-loop-fact l = l.set - l.fact
+decreases-loop-fact l = l.facts - l.fact

@@ -11,6 +11,16 @@ slice_bounds-result-count c =
     let stands : Placed c.args.s.now c.record_at-found.result = rw c.record_at-found.ensures (placed c.args.s.now c.args.at) in
     omega (arith, stands)
 
+pub slice_bounds-result-start : goal.slice_bounds-result-start
+slice_bounds-result-start c =
+    let stands : Placed c.args.s.now c.record_at-found.result = rw c.record_at-found.ensures (placed c.args.s.now c.args.at) in
+    omega (arith, stands)
+
+pub slice_bounds-result-end : goal.slice_bounds-result-end
+slice_bounds-result-end c =
+    let stands : Placed c.args.s.now c.record_at-found.result = rw c.record_at-found.ensures (placed c.args.s.now c.args.at) in
+    omega (arith, stands)
+
 pub returns : goal.returns
 unfolding body_of
 returns c =

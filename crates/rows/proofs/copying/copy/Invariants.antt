@@ -6,7 +6,7 @@ use Rattle.rows.specs.Copies.{pasted}
 use Rattle.rows.proofs.copying.copy.Given as goal
 
 abbrev pub invariant-loop-i : goal.invariant-loop-i
-invariant-loop-i l = (l.i ≤ l.count) × (length l.to ≡ length l.at) × (l.to ≡ pasted l.at l.initial.to (drop l.start l.from) l.i)
+invariant-loop-i l = (l.i ≤ l.count) × (length l.to ≡ length l.initial.to) × (l.to ≡ pasted l.initial.to l.at (drop l.start l.from) l.i)
 
 abbrev pub decreases-loop-i : goal.decreases-loop-i
 decreases-loop-i l = l.count - l.i

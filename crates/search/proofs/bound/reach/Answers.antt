@@ -1,6 +1,7 @@
 use mathlib.Core.Path.{subst}
 use Prim.Native.Nat.{◌+◌}
 use native.Mathlib.Omega.{arith}
+use borrow.Author.Tests.{not-false}
 use lib.ListN.{length}
 use Rattle.choices.specs.Choices.{list_of}
 use Rattle.table.specs.Strips.{Courses}
@@ -31,7 +32,7 @@ returns-then-not-next c =
 pub returns-then-next_in-eq-PER_FACT : goal.returns-then-next_in-eq-PER_FACT
 returns-then-next_in-eq-PER_FACT c =
     let runs : Courses = courses_in (column_in c.args.col.now) c.args.counts.now c.args.steps.now in
-    let lacking-here : Lacks (column_in c.args.col.now) (runs) c.loop-n.passed c.args.out c.args.want c.lacking-next.result.choice = let a = c.args in let rs = courses_in (column_in a.col.now) a.counts.now a.steps.now in let lack = c.lacking-next in subst (λ t. Lacking (column_in a.col.now) rs c.loop-n.passed a.out a.want t lack.result.choice) (c.if-not-next.false) lack.ensures in
+    let lacking-here : Lacks (column_in c.args.col.now) (runs) c.loop-n.passed c.args.out c.args.want c.lacking-next.result.choice = let a = c.args in let rs = courses_in (column_in a.col.now) a.counts.now a.steps.now in let lack = c.lacking-next in subst (λ t. Lacking (column_in a.col.now) rs c.loop-n.passed a.out a.want t lack.result.choice) (not-false lack.result.any c.if-not-next.false) lack.ensures in
     let a = c.args in
     let rs = courses_in (column_in a.col.now) a.counts.now a.steps.now in
     none_left (column_in a.col.now) rs a.s a.out a.want c.loop-n.passed c.lacking-next.result.choice
@@ -46,7 +47,7 @@ loop-n-smaller c = omega arith
 pub loop-n-preserved : goal.loop-n-preserved
 loop-n-preserved c =
     let runs : Courses = courses_in (column_in c.args.col.now) c.args.counts.now c.args.steps.now in
-    let lacking-here : Lacks (column_in c.args.col.now) (runs) c.loop-n.passed c.args.out c.args.want c.lacking-next.result.choice = let a = c.args in let rs = courses_in (column_in a.col.now) a.counts.now a.steps.now in let lack = c.lacking-next in subst (λ t. Lacking (column_in a.col.now) rs c.loop-n.passed a.out a.want t lack.result.choice) (c.if-not-next.false) lack.ensures in
+    let lacking-here : Lacks (column_in c.args.col.now) (runs) c.loop-n.passed c.args.out c.args.want c.lacking-next.result.choice = let a = c.args in let rs = courses_in (column_in a.col.now) a.counts.now a.steps.now in let lack = c.lacking-next in subst (λ t. Lacking (column_in a.col.now) rs c.loop-n.passed a.out a.want t lack.result.choice) (not-false lack.result.any c.if-not-next.false) lack.ensures in
     let a = c.args in
     let rs = courses_in (column_in a.col.now) a.counts.now a.steps.now in (
       rw c.joined-passed.ensures

@@ -6,7 +6,7 @@ use Rattle.taskwords.proofs.PuttingLaws.{word_of}
 use Rattle.taskwords.proofs.answer.put_counts.Given as goal
 
 abbrev pub invariant-loop-i : goal.invariant-loop-i
-invariant-loop-i l = Gathering (word_of l.initial.answer) max_runs l.at l.answer l.counts l.next l.i
+invariant-loop-i l = Gathering (word_of l.counts) max_runs l.initial.answer l.answer l.at l.next l.i
 
 abbrev pub decreases-loop-i : goal.decreases-loop-i
 decreases-loop-i l = max_runs - l.i

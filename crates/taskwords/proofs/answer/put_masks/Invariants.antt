@@ -6,7 +6,7 @@ use Rattle.taskwords.proofs.PuttingLaws.{word_of}
 use Rattle.taskwords.proofs.answer.put_masks.Given as goal
 
 abbrev pub invariant-loop-i : goal.invariant-loop-i
-invariant-loop-i l = Gathering (word_of l.i-end) (length l.i-end) l.at l.answer l.masks l.next l.i
+invariant-loop-i l = Gathering (word_of l.masks) (length l.masks) l.initial.answer l.answer l.at l.next l.i
 
 abbrev pub decreases-loop-i : goal.decreases-loop-i
-decreases-loop-i l = l.initial.i - l.i
+decreases-loop-i l = l.i-end - l.i

@@ -6,7 +6,7 @@ use Rattle.taskwriter.proofs.file.further_runs.Given as goal
 
 abbrev pub invariant-loop-i : goal.invariant-loop-i
 invariant-loop-i l =
-    Gathering (λ k. further_run l.facts (suc k)) l.initial.room l.at l.room l.task l.next l.i
+    Gathering (λ k. further_run l.task (suc k)) l.further l.initial.room l.room l.at l.next l.i
 
 abbrev pub decreases-loop-i : goal.decreases-loop-i
-decreases-loop-i l = l.initial.room - l.i
+decreases-loop-i l = l.further - l.i

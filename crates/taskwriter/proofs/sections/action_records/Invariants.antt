@@ -6,7 +6,7 @@ use Rattle.taskwriter.proofs.sections.action_records.Given as goal
 
 abbrev pub invariant-loop-fact : goal.invariant-loop-fact
 invariant-loop-fact l =
-    Gathering (cell_record l.facts l.set l.initial.room) l.action l.at l.room l.kind l.next l.fact
+    Gathering (cell_record l.kind l.action l.set) l.facts l.initial.room l.room l.at l.next l.fact
 
 abbrev pub decreases-loop-fact : goal.decreases-loop-fact
-decreases-loop-fact l = l.action - l.fact
+decreases-loop-fact l = l.facts - l.fact

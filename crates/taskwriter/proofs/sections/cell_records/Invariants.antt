@@ -7,7 +7,7 @@ use Rattle.taskwriter.proofs.sections.cell_records.Given as goal
 
 abbrev pub invariant-loop-action : goal.invariant-loop-action
 invariant-loop-action l =
-    Gathering (λ a. action_records l.facts l.actions a (get_or l.initial.room a 0)) l.sets l.at l.room l.kind l.next l.action
+    Gathering (λ a. action_records l.kind l.facts a (get_or l.sets a 0)) l.actions l.initial.room l.room l.at l.next l.action
 
 abbrev pub decreases-loop-action : goal.decreases-loop-action
-decreases-loop-action l = l.sets - l.action
+decreases-loop-action l = l.actions - l.action

@@ -6,7 +6,7 @@ use Rattle.taskwriter.proofs.sections.fact_records.Given as goal
 
 abbrev pub invariant-loop-fact : goal.invariant-loop-fact
 invariant-loop-fact l =
-    Gathering (fact_record l.facts l.initial.room) l.set l.at l.room l.kind l.next l.fact
+    Gathering (fact_record l.kind l.set) l.facts l.initial.room l.room l.at l.next l.fact
 
 abbrev pub decreases-loop-fact : goal.decreases-loop-fact
-decreases-loop-fact l = l.set - l.fact
+decreases-loop-fact l = l.facts - l.fact

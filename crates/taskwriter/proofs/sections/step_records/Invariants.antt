@@ -5,7 +5,7 @@ use Rattle.taskwriter.specs.Pieces.{step_at}
 use Rattle.taskwriter.proofs.sections.step_records.Given as goal
 
 abbrev pub invariant-loop-i : goal.invariant-loop-i
-invariant-loop-i l = Gathering (step_at l.run l.count) l.initial.room l.at l.room l.steps l.next l.i
+invariant-loop-i l = Gathering (step_at l.steps l.run) l.count l.initial.room l.room l.at l.next l.i
 
 abbrev pub decreases-loop-i : goal.decreases-loop-i
-decreases-loop-i l = l.initial.room - l.i
+decreases-loop-i l = l.count - l.i

@@ -27,4 +27,4 @@ shape_of-room c = length_kept c.loop-i.invariant
 
 pub returns : goal.returns
 returns c =
-    rw (each_gathered field c.args.numbers.now) c (all_placed c.loop-i.invariant (search rules))
+    rw (each_gathered field c.args.numbers.now) at (all_placed c.loop-i.invariant (search rules))

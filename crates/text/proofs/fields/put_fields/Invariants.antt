@@ -7,7 +7,7 @@ use Rattle.text.proofs.fields.put_fields.Given as goal
 
 abbrev pub invariant-loop-i : goal.invariant-loop-i
 invariant-loop-i l =
-    Gathering (λ k. field (get_or l.i-end k 0)) (length l.i-end) l.at l.room l.numbers l.next l.i
+    Gathering (λ k. field (get_or l.numbers k 0)) (length l.numbers) l.initial.room l.room l.at l.next l.i
 
 abbrev pub decreases-loop-i : goal.decreases-loop-i
-decreases-loop-i l = l.initial.i - l.i
+decreases-loop-i l = l.i-end - l.i

@@ -1,12 +1,17 @@
 use mathlib.Core.Path.{◌≡◌, ap, sym, ◌∙◌}
 use Prim.Native.Nat.{◌+◌, ◌≤◌}
 use native.Mathlib.Omega.{arith}
+use borrow.Author.Rules.{rules}
 use lib.ListN.{length}
 use Rattle.table.specs.Counting.{sum_below}
 use Rattle.table.specs.Sizes.{max_runs, max_steps}
 use Rattle.table.specs.Tasks.{count_of}
 use Rattle.table.proofs.CountingLaws.{at_end, sum_below_le, sum_below_next}
 use Rattle.text.proofs.lines.count_steps.Goals as goal
+
+pub loop-i-init : goal.loop-i-init
+unfolding sum_below
+loop-i-init c = search rules
 
 pub offset_bounds-counts-i : goal.offset_bounds-counts-i
 offset_bounds-counts-i c =

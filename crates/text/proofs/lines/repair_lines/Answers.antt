@@ -30,4 +30,4 @@ shape_of-room c = length_kept c.loop-i.invariant
 
 pub returns : goal.returns
 returns c =
-    rw (each_gathered repair_line c.args.list.now) c (all_placed c.loop-i.invariant (search rules))
+    rw (each_gathered repair_line c.args.list.now) at (all_placed c.loop-i.invariant (search rules))
