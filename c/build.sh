@@ -11,10 +11,8 @@ archive=$root/target/staticlib/libboundary.a
 . "$here/kit.sh"
 
 cd "$root"
-# The archive is made anew only where a crate has changed since: making it proves `boundary` once more.
-if [ ! -f "$archive" ] || [ -n "$(find crates crates.txt -newer "$archive" -print 2>/dev/null | head -n 1)" ]; then
-    rt staticlib boundary
-fi
+# The archive is made anew only where a crate has changed since: making it proves `boundary_c` once more.
+tools/programs boundary_c
 mkdir -p "$out"
 flags='-std=c11 -O2 -Wall -Wextra -Werror'
 native=

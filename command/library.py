@@ -20,7 +20,7 @@ STEPS, LONGEST_FILE, LONGEST_LIST, LONGEST_DOMAIN, LONGEST_PROBLEM = 64, 27660, 
 class Library:
     def __init__(self):
         sources = ["crates", "crates.txt", "c/driver.c", "c/zernoplysk.h"]
-        make_ready("boundary", [str(ROOT / "c" / "build.sh")], [DRIVER], sources)
+        make_ready("boundary_c", [str(ROOT / "c" / "build.sh")], [DRIVER], sources)
 
     def ask(self, requests):
         """Makes calls, each (call, words, bytes), and gives what came back of each, (words, bytes)."""

@@ -8,7 +8,7 @@ from ready import ROOT, is_ready, make_ready
 from stop import UNABLE, Stop
 from taskfile import task_of
 
-RUN = ROOT / "c" / "run.sh"
+RUN, MAKE = ROOT / "c" / "run.sh", ROOT / "tools" / "programs"
 PROGRAM = ROOT / "target" / "bin" / "zernoplysk"
 CHECKED = ROOT / "target" / "mend-checked"  # when the program was last seen to be proved
 MADE, SOURCES = [PROGRAM, CHECKED], ["crates", "crates.txt"]
@@ -28,7 +28,7 @@ def is_built():
 
 def listing_of(data):
     """The program's listing of an input. What it says on standard error, or a listing that is not whole, is no answer."""
-    if make_ready("zernoplysk", ["rt", "check", "zernoplysk"], MADE, SOURCES):
+    if make_ready("zernoplysk", [str(MAKE), "zernoplysk"], MADE, SOURCES):
         with contextlib.suppress(OSError):  # where that can't be noted, it is looked at again the next time
             CHECKED.touch()
     ran = started(PROGRAM, data)

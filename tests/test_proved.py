@@ -12,8 +12,20 @@ from refused_files import AT_THE_END, DISORDERED, LOCK_WITHOUT_NEED, OUTSIDE
 from support import LIST, REFUSED, ROOT, SAMPLES, UNABLE, Case, mend
 
 PROGRAM = '"$0/c/run.sh" "$0/target/bin/zernoplysk"'
-CRATES = "# name: what it stands on\nfacts:\ntable: facts\nzernoplysk: table facts io libc\nboundary: table facts\nother: facts\n"
+CRATES = """# name: what it stands on
+facts:
+table: facts
+zernoplysk: table facts io libc
+boundary: facts
+boundary_c staticlib: boundary facts
+other: facts
+"""
 LISTING = (SAMPLES / "story.listing").read_text()
+
+
+def proving(name):
+    """What rt says of a crate that it proves: a line as it begins, and one at the end."""
+    return f"rt: chose --jobs 2 for {name}", "logic=proved functions=1 sum=dac8208d650f15bf native=nat,char,string"
 
 
 def program(redirected):
@@ -50,10 +62,13 @@ class Stands(Case):
         shutil.copytree(ROOT / "command", self.root / "command")
         shutil.copy(ROOT / "mend", self.root / "mend")
         (self.root / "crates.txt").write_text(CRATES)
-        for name in ("crates", "c", "bin", "target/bin"):
+        for name in ("crates/zernoplysk", "c", "bin", "target/bin", "tools"):
             (self.root / name).mkdir(parents=True)
+        shutil.copy(ROOT / "tools" / "programs", self.root / "tools")
+        (self.root / "crates/zernoplysk/stdin").touch()
         self.script("c/run.sh", f"cat '{SAMPLES}/story.listing'")
-        self.script("bin/rt", "echo 'rt: facts proved (5 s)'; echo 'rt: table proved (unchanged)'; touch target/bin/zernoplysk")
+        proved = "; ".join(f"echo '{line}' >&2" for name in ("facts", "table") for line in proving(name))
+        self.script("bin/rt", f"{proved}; mkdir -p out; touch out/zernoplysk")
 
     def script(self, name, text):
         (self.root / name).write_text(f'#!/bin/sh\necho "$0 $*" >> "{self.root}/started"\n{text}\n')
@@ -103,16 +118,16 @@ class Stands(Case):
         told = ["mend: proving and building first, 3 crates; from nothing that takes some minutes"]
         told += ["mend: crate 1 of 3 is proved: facts", "mend: crate 2 of 3 is proved: table"]
         self.expect(self.mend(SAMPLES / "story.txt"), LIST, told)
-        self.assertEqual(self.started()[0], "rt check zernoplysk")
+        self.assertEqual(self.started()[0], "rt run zernoplysk")
         self.expect(self.mend(SAMPLES / "story.txt"), LIST)
         later = time.time() + 5
         os.utime(self.root / "crates", (later, later))
         self.assertEqual(self.mend(SAMPLES / "story.txt").stderr.splitlines()[0], told[0])
 
     def test_proving_that_fails(self):
-        self.script("bin/rt", "echo 'rt: search not proved'; exit 1")
+        self.script("bin/rt", "echo 'rt: search not proved' >&2; exit 1")
         ran = self.mend(SAMPLES / "story.txt")
-        told = "mend: rt check zernoplysk failed: rt: search not proved"
+        told = f"mend: {self.root}/tools/programs zernoplysk failed: rt: search not proved"
         self.assertEqual((ran.returncode, ran.stderr.splitlines()[-1]), (UNABLE, told))
 
     def test_no_kit(self):
@@ -129,7 +144,7 @@ class Stands(Case):
         self.assertEqual((ran.returncode, ran.stderr), (UNABLE, "mend: there is no python3 on this machine\n"))
 
     def test_building_the_library_is_told_too(self):
-        lines = "rt: facts proved (5 s)\nrt: target/staticlib/libboundary.a has the functions of boundary that are marked"
+        lines = "\n".join([*proving("facts"), *proving("boundary")])
         (self.root / "target/bin/zernoplysk").touch()
         self.script("c/build.sh", f"echo '{lines}'; echo 'c: no compiler'; exit 1")
         ran = self.mend(SAMPLES / "story.txt", "--show")

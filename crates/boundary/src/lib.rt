@@ -1,6 +1,7 @@
 // The boundary: every public call as an `extern "C"` function on numbers and slices, for callers in C and in Rust
 // (docs/BOUNDARY.md). A task crosses as 668 words, an answer as words in lent room; where that room is too short nothing
-// is called, and the answer is 255. A task that a call changes is lent in and out.
+// is called, and the answer is 255. A task that a call changes is lent in and out. The archive that such a caller links is made of
+// `boundary_c`, which has each function once more: no library exports any.
 
 #![tactic(auto)]
 
