@@ -1,6 +1,6 @@
 -- What a call of the record reader gives, by the contract above its function and by nothing else. Of a function over the thin struct
--- Rattle makes no plain claim (no `Post`); what stands in is that the clause above it IS the fact named here, in every world of the
--- program logic. Assumes nothing.
+-- it is said twice: the clause above it IS the fact named here, in every world of the program logic (`.._says`), and a call, as far as
+-- Rattle's plain claim of it tells (`Post`), keeps that fact (`.._gives`). Assumes nothing.
 use mathlib.Core.List.{List}
 use mathlib.Core.Path.{◌≡◌, refl}
 use Prim.Native.Nat.{ℕ}
@@ -21,6 +21,10 @@ use Rattle.recordreader.specs.contracts.body as body
 use Rattle.recordreader.specs.contracts.moved_on as moved_on
 use Rattle.recordreader.specs.contracts.new as new
 use Rattle.recordreader.specs.contracts.next as next
+use Rattle.recordreader.proofs.body.Reads as body-reads
+use Rattle.recordreader.proofs.moved_on.Reads as moved_on-reads
+use Rattle.recordreader.proofs.new.Reads as new-reads
+use Rattle.recordreader.proofs.next.Reads as next-reads
 use Rattle.recordreader.proofs.place_after.Reads as place_after
 use Rattle.recordreader.specs.Places.{place_after}
 use Rattle.recordreader.specs.declared.Reader.{Reader}
@@ -65,6 +69,31 @@ module _ {M : Type 1} {𝓤 : Ura M} (𝓛 : Logic 𝓤) (mem : Memory → SProp
 
   moved_on_asks_nothing : (a : _) (g : _) → (moved_on.clauses 𝓛 mem run κs a).requires g ≡ (connectives 𝓤).⊤ₛ
   moved_on_asks_nothing a g = refl
+
+-- The same of a call, as its plain claim allows it.
+pub new_gives : (file : Bor (List ℕ)) (r : Reader) → Call {I = Bor (List ℕ)} {O = Reader} new-reads.Post (λ a. a.0) (λ r b. r) file r → NewGives file r
+new_gives file r = call_keeps NewGives (λ k a r b p. p) file r
+
+pub next_gives : (d : Reader) (f : Record) → Call {I = Reader} {O = Record} next-reads.Post (λ a. a.0) (λ r b. r) d f → NextGives d f
+next_gives d f = call_keeps NextGives (λ k a r b p. p) d f
+
+pub body_gives : (d : Reader) (b : Bor (List ℕ)) → Call {I = Reader} {O = Bor (List ℕ)} body-reads.Post (λ a. a.0) (λ r b. r) d b → ReaderBodyGives d b
+body_gives d b = call_keeps ReaderBodyGives (λ k a r b p. p) d b
+
+pub moved_on_gives : (d q : Reader) → Call {I = Reader} {O = Reader} moved_on-reads.Post (λ a. a.0) (λ r b. r) d q → MovedOnGives d q
+moved_on_gives d q = call_keeps MovedOnGives (λ k a r b p. p) d q
+
+pub new_asks_none : AsksNothing new-reads.Pre
+new_asks_none k a = tt
+
+pub next_asks_none : AsksNothing next-reads.Pre
+next_asks_none k a = tt
+
+pub body_asks_none : AsksNothing body-reads.Pre
+body_asks_none k a = tt
+
+pub moved_on_asks_none : AsksNothing moved_on-reads.Pre
+moved_on_asks_none k a = tt
 
 -- ---- the function on a plain slice
 

@@ -1,4 +1,3 @@
--- What the walks over a reader share, and the law of the place after a record.
+-- The law of the place after a record, and what a call of the record reader gives.
 pub mod PlaceLaws
-pub mod ReaderParts
 pub mod Called

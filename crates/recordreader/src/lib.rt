@@ -1,6 +1,6 @@
 // Handing out one record after another from the lent file bytes (document 01, "The task file" and "What to write where"):
-// a thin struct of the file's slice and a place in it. The borrow checker covers no function over such a struct, so each
-// is proved by hand, takes the struct apart and leaves the work to a covered function on slice and place.
+// a thin struct of the file's slice and a place in it. Each function takes the struct apart and leaves the work to a
+// function on slice and place.
 
 #![tactic(auto)]
 
