@@ -3,6 +3,7 @@
 -- (.2); of zp_apply and zp_add_run the task's words (.2); of zp_edit the task's words (.2) and the table (.3). Assumes nothing.
 use mathlib.Core.List.{List}
 use Prim.Native.Nat.{ℕ}
+use denote.MutBor.{MutBor}
 use denote.Ref.{Bor}
 use Rattle.table.proofs.ContractLaws.{call_keeps}
 use Rattle.table.specs.Asks.{Call, AsksNothing}
@@ -28,20 +29,24 @@ use Rattle.boundary.specs.BoundaryCalls.{HandsRecord, ReadsTask, WritesTask, Che
 abbrev Lent : Type 0
 Lent = Bor (List ℕ)
 
+-- Lent to be written.
+abbrev Written : Type 0
+Written = MutBor (List ℕ)
+
 -- One to be read, and the answer's words.
-abbrev Reading : {K : Type 0} → (K → Lent × (Lent × Unit {0}) → ℕ → Lent × (Lent × Unit {0}) → Type 0) → List ℕ → List ℕ → ℕ × List ℕ → Type 0
+abbrev Reading : {K : Type 0} → (K → Lent × (Written × Unit {0}) → ℕ → Lent × (Written × Unit {0}) → Type 0) → List ℕ → List ℕ → ℕ × List ℕ → Type 0
 Reading Post read answer =
     Call {I = List ℕ × List ℕ} {O = ℕ × List ℕ} Post (λ a. (a.0.now, a.1.0.now)) (λ r b. (r, b.1.0.now)) (read, answer)
 
 -- The same with a number: a place of a file, a run of a task, the limit or the facts of a text.
-abbrev ReadingAt : {K : Type 0} → (K → Lent × (ℕ × (Lent × Unit {0})) → ℕ → Lent × (ℕ × (Lent × Unit {0})) → Type 0)
+abbrev ReadingAt : {K : Type 0} → (K → Lent × (ℕ × (Written × Unit {0})) → ℕ → Lent × (ℕ × (Written × Unit {0})) → Type 0)
     → List ℕ → ℕ → List ℕ → ℕ × List ℕ → Type 0
 ReadingAt Post read at answer =
     Call {I = List ℕ × ℕ × List ℕ} {O = ℕ × List ℕ} Post (λ a. (a.0.now, a.1.0, a.1.1.0.now)) (λ r b. (r, b.1.1.0.now))
     (read, at, answer)
 
 -- One to be read, one to be filled, and the answer's words.
-abbrev Filling : {K : Type 0} → (K → Lent × (Lent × (Lent × Unit {0})) → ℕ → Lent × (Lent × (Lent × Unit {0})) → Type 0)
+abbrev Filling : {K : Type 0} → (K → Lent × (Written × (Written × Unit {0})) → ℕ → Lent × (Written × (Written × Unit {0})) → Type 0)
     → List ℕ → List ℕ → List ℕ → ℕ × List ℕ × List ℕ → Type 0
 Filling Post read room answer =
     Call {I = List ℕ × List ℕ × List ℕ} {O = ℕ × List ℕ × List ℕ} Post (λ a. (a.0.now, a.1.0.now, a.1.1.0.now))
