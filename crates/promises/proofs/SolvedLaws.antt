@@ -88,6 +88,8 @@ module _ (t : Task) (w : WellFormed t) (room : List ℕ) (o : Outcome) (s : Solv
     where
       pick : (v : Verdict) × Holding v × Told room o no_list_works v → Holding hopeless
       pick (hopeless, p, none) = p
+      pick (found _, p, x) = elim x [ ]
+      pick (over, p, x) = elim x [ ]
 
   pub over_exactly : (number o ≡ over_the_limit) ↔ Holding over
   unfolding told
@@ -95,6 +97,8 @@ module _ (t : Task) (w : WellFormed t) (room : List ℕ) (o : Outcome) (s : Solv
     where
       pick : (v : Verdict) × Holding v × Told room o over_the_limit v → Holding over
       pick (over, p, above) = p
+      pick (found _, p, x) = elim x [ ]
+      pick (hopeless, p, x) = elim x [ ]
 
   -- The answer within the limit: 0 in room that is enough, else 11.
   pub accepted_answer : number o ≡ accepted → (l : List ℕ) × First (WorksFor t) l × (length l ≤ t.table.limit) × (o ≡ answered l room)
@@ -103,6 +107,8 @@ module _ (t : Task) (w : WellFormed t) (room : List ℕ) (o : Outcome) (s : Solv
       pick : (v : Verdict) × Holding v × Told room o accepted v
           → (l : List ℕ) × First (WorksFor t) l × (length l ≤ t.table.limit) × (o ≡ answered l room)
       pick (found l, p, fits _ e) = (l, p.0, p.1, e)
+      pick (over, p, x) = elim x [ ]
+      pick (hopeless, p, x) = elim x [ ]
 
   -- what was written into the room is the answer
   pub wrote_answer : number o ≡ accepted
@@ -122,6 +128,8 @@ module _ (t : Task) (w : WellFormed t) (room : List ℕ) (o : Outcome) (s : Solv
       pick : (v : Verdict) × Holding v × Told room o room_too_short v
           → (l : List ℕ) × First (WorksFor t) l × (length l ≤ t.table.limit) × (length room < length l)
       pick (found l, p, short _ low) = (l, p.0, p.1, low)
+      pick (over, p, x) = elim x [ ]
+      pick (hopeless, p, x) = elim x [ ]
 
 -- ---- the list applied
 
