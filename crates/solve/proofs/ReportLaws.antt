@@ -34,7 +34,7 @@ use Rattle.rows.proofs.TableLaws.{row_number, row_length}
 module _ (row : List ℕ) where
   pub row_hopeless_lem : is_hopeless (verdict_in row) ≡ eqb (get_or row 0 0) row_hopeless
   unfolding verdict_in is_hopeless
-  row_hopeless = pick (eqb (get_or row 0 0) row_over) (eqb (get_or row 0 0) row_hopeless) refl refl
+  row_hopeless_lem = pick (eqb (get_or row 0 0) row_over) (eqb (get_or row 0 0) row_hopeless) refl refl
     where
       pick : (a b : Bool) → eqb (get_or row 0 0) row_over ≡ a → eqb (get_or row 0 0) row_hopeless ≡ b
           → is_hopeless (cond {A = Verdict} a over (cond {A = Verdict} b hopeless (found (take (get_or row 0 0) (drop 1 row))))) ≡ b
@@ -46,7 +46,7 @@ module _ (row : List ℕ) where
 
   pub row_over_lem : is_over (verdict_in row) ≡ eqb (get_or row 0 0) row_over
   unfolding verdict_in is_over
-  row_over = pick (eqb (get_or row 0 0) row_over) (eqb (get_or row 0 0) row_hopeless)
+  row_over_lem = pick (eqb (get_or row 0 0) row_over) (eqb (get_or row 0 0) row_hopeless)
     where
       pick : (a b : Bool)
           → is_over (cond {A = Verdict} a over (cond {A = Verdict} b hopeless (found (take (get_or row 0 0) (drop 1 row))))) ≡ a
