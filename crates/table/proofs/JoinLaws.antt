@@ -18,7 +18,7 @@ use Rattle.table.proofs.OrderLaws.{is_in_none, is_in_left, is_in_right, is_in_ei
 use Rattle.table.proofs.RepairLaws.{repaired_none, right_of_part, right_of_whole}
 use Rattle.table.proofs.RunLaws.{valid_all_right, right_all_valid}
 use Rattle.table.proofs.Strides.{limit_within_row}
-use Rattle.table.specs.Answer.{Permitted, Works, Keeps, First, Verdict, found, over, hopeless, Within}
+use Rattle.table.specs.Answer.{Permitted, Works, Keeps, First, Verdict, found, over, Within}
 use Rattle.table.specs.Lists.{gather}
 use Rattle.table.specs.Join.{KeepsBelow, Inside, is_hopeless, is_over, found_list, join_lists, Joined, no_list, beyond, in_order, join_rows, read_against, join_verdicts, ComesTo}
 use Rattle.table.specs.Order.{is_in, ◌≼◌}

@@ -1,13 +1,13 @@
 -- The number of a repair and back (document 01, "The model and its run"), both ways round; what a permitted number names. Assumes nothing.
-use mathlib.Core.Bool.{Bool, true, false, ◌&&◌, cond}
-use mathlib.Core.Path.{◌≡◌, refl, ap}
+use mathlib.Core.Bool.{true, false, ◌&&◌}
+use mathlib.Core.Path.{◌≡◌, refl}
 use Prim.Native.Nat.{ℕ, zero, suc, ◌≤◌, ◌<◌}
 use native.Mathlib.Omega.{arith}
-use lib.Dec.{eqb, ltb}
-use borrow.Author.Tests.{eqb-true, ltb-true, lt-ltb, le-ltb}
+use lib.Dec.{ltb}
+use borrow.Author.Tests.{ltb-true, lt-ltb, le-ltb}
 use Rattle.table.specs.Sizes.{max_facts, max_actions, kinds, unused}
 use Rattle.table.specs.Strips.{Cells}
-use Rattle.table.specs.Repairs.{drop_delete, add_effect, drop_need, by_kind, number_of, fact_of, kind_of, action_of, numbered, repairable, permits, permitted}
+use Rattle.table.specs.Repairs.{drop_delete, add_effect, drop_need, number_of, fact_of, kind_of, action_of, numbered, repairable, permits, permitted}
 use Rattle.table.proofs.FlagLaws.{both, and_both}
 
 -- ---- the number and back
