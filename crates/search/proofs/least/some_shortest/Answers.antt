@@ -46,7 +46,7 @@ returns-then-found c =
     let all = c.fullest-all in
     let a = c.args in
     let rs = courses_in (column_in a.col.now) a.counts.now a.steps.now in
-    short_found (column_in a.col.now) rs c.nothing-empty.result all.result c.loop-left.false c.nothing-empty.ensures all.ensures (wrong)
+    short_found (column_in a.col.now) rs c.nothing-empty.result all.result c.loop-left.left c.nothing-empty.ensures all.ensures (wrong)
     found.result.any found.result.choice c.if-found.true (omega arith) c.loop-left.invariant.1 found.ensures
 
 pub overflow_step-left : goal.overflow_step-left
@@ -63,7 +63,7 @@ loop-left-preserved c =
     let a = c.args in
     let rs = courses_in (column_in a.col.now) a.counts.now a.steps.now in (
       omega arith,
-      longer_than (column_in a.col.now) rs c.nothing-empty.result all.result c.loop-left.false c.nothing-empty.ensures all.ensures
+      longer_than (column_in a.col.now) rs c.nothing-empty.result all.result c.loop-left.left c.nothing-empty.ensures all.ensures
           (wrong) found.result.any found.result.choice c.if-found.false found.ensures,
     )
 

@@ -7,7 +7,7 @@ use Rattle.search.specs.Columns.{column_in, KeepsIn, courses_in}
 use Rattle.search.proofs.least.some_shortest.Given as goal
 
 abbrev pub invariant-loop-left : goal.invariant-loop-left
-invariant-loop-left l = (l.left ≤ max_row + 1) × ((l : List ℕ) → KeepsIn (column_in l.col) (courses_in (column_in l.col) l.counts l.steps) l → l.left ≤ length l)
+invariant-loop-left l = (l.left ≤ max_row + 1) × ((xs : List ℕ) → KeepsIn (column_in l.col) (courses_in (column_in l.col) l.counts l.steps) xs → l.left ≤ length xs)
 
 abbrev pub decreases-loop-left : goal.decreases-loop-left
 decreases-loop-left l = max_row + 1 - l.left

@@ -8,11 +8,11 @@ returns c = (
   record {
     actions = refl;
     needs = c.actions_having.ensures;
-    c = c.actions_having-2.ensures;
-    c = c.actions_having-3.ensures;
-    c = c.actions_having-4.ensures;
+    adds = c.actions_having-2.ensures;
+    deletes = c.actions_having-3.ensures;
+    locks = c.actions_having-4.ensures;
     runs = refl;
-    c = c.runs_having.ensures;
+    start = c.runs_having.ensures;
     goal = c.runs_having-2.ensures;
   },
 )
