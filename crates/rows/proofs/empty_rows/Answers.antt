@@ -27,7 +27,7 @@ pub loop-f-preserved : goal.loop-f-preserved
 loop-f-preserved c =
     let f = c.loop-f.f in (
       omega arith,
-      rows_more (λ g row. row ≡ empty_row) c.args.table.now (λ g. g < f) _ f c.loop-f.table c.put_empty.new.1.0
+      rows_more (λ g row. row ≡ empty_row) c.args.table.now (λ g. g < f) _ f c.loop-f.table c.put_empty.new.table
           (λ g l ne. by_order g f (λ m. m) (λ m. absurd (ne (omega arith)))) c.loop-f.invariant.1 c.put_empty.ensures,
     )
 

@@ -17,8 +17,8 @@ loop-left-init c =
 
 pub row-row-requires : goal.row-row-requires
 row-row-requires c =
-    let some : 0 < c.loop-left.false = pos_of_ne-zero c.loop-left-test.true in
-    let inside : c.lowest-f.result < c.args.t.table.facts = lowest_inside c.args.t c.requires.well_formed c.loop-left.false (some) c.loop-left.invariant.low c.lowest-f.result c.lowest-f.ensures in
+    let some : 0 < c.loop-left.left = pos_of_ne-zero c.loop-left-test.true in
+    let inside : c.lowest-f.result < c.args.t.table.facts = lowest_inside c.args.t c.requires.well_formed c.loop-left.left (some) c.loop-left.invariant.low c.lowest-f.result c.lowest-f.ensures in
     let got = c.column_of-col.ensures in
     record {
       column_formed = shows_formed c.args.t (column_in c.column_of-col.result) got.1 c.requires.well_formed;
@@ -27,8 +27,8 @@ row-row-requires c =
 
 pub put-requires : goal.put-requires
 put-requires c =
-    let some : 0 < c.loop-left.false = pos_of_ne-zero c.loop-left-test.true in
-    let inside : c.lowest-f.result < c.args.t.table.facts = lowest_inside c.args.t c.requires.well_formed c.loop-left.false (some) c.loop-left.invariant.low c.lowest-f.result c.lowest-f.ensures in
+    let some : 0 < c.loop-left.left = pos_of_ne-zero c.loop-left-test.true in
+    let inside : c.lowest-f.result < c.args.t.table.facts = lowest_inside c.args.t c.requires.well_formed c.loop-left.left (some) c.loop-left.invariant.low c.lowest-f.result c.lowest-f.ensures in
     record {
       f_lt_max_facts = omega (arith, inside, c.requires.well_formed.facts_high);
       all_rows_in_bounds = omega (arith, c.requires.all_rows_in_bounds, c.loop-left.invariant.rows.places);
@@ -36,17 +36,17 @@ put-requires c =
 
 pub loop-left-smaller : goal.loop-left-smaller
 loop-left-smaller c =
-    let some : 0 < c.loop-left.false = pos_of_ne-zero c.loop-left-test.true in
-    without_less c.args.t c.requires.well_formed c.loop-left.false (some) c.loop-left.invariant.low c.lowest-f.result c.lowest-f.ensures
+    let some : 0 < c.loop-left.left = pos_of_ne-zero c.loop-left-test.true in
+    without_less c.args.t c.requires.well_formed c.loop-left.left (some) c.loop-left.invariant.low c.lowest-f.result c.lowest-f.ensures
     c.without_fact-left.result c.without_fact-left.ensures
 
 pub loop-left-preserved : goal.loop-left-preserved
 loop-left-preserved c =
-    let some : 0 < c.loop-left.false = pos_of_ne-zero c.loop-left-test.true in
-    let inside : c.lowest-f.result < c.args.t.table.facts = lowest_inside c.args.t c.requires.well_formed c.loop-left.false (some) c.loop-left.invariant.low c.lowest-f.result c.lowest-f.ensures in
+    let some : 0 < c.loop-left.left = pos_of_ne-zero c.loop-left-test.true in
+    let inside : c.lowest-f.result < c.args.t.table.facts = lowest_inside c.args.t c.requires.well_formed c.loop-left.left (some) c.loop-left.invariant.low c.lowest-f.result c.lowest-f.ensures in
     let f = c.lowest-f.result in
-    let after = c.put.last.1.1.0 in
-    searched_more c.args.t c.requires.well_formed c.loop-left.false (some) c.args.table.now c.loop-left.table c.loop-left.invariant f c.lowest-f.ensures
+    let after = c.put.new.table in
+    searched_more c.args.t c.requires.well_formed c.loop-left.left (some) c.args.table.now c.loop-left.table c.loop-left.invariant f c.lowest-f.ensures
     c.without_fact-left.result c.without_fact-left.ensures after
     (row_rewritten c.args.t f (column_in c.column_of-col.result) c.row-row.result c.loop-left.table after c.column_of-col.ensures (inside) c.row-row.ensures c.put.ensures)
 

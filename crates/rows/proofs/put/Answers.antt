@@ -5,4 +5,4 @@ use Rattle.rows.proofs.put.Goals as goal
 
 pub returns : goal.returns
 returns c =
-    row_written c.args.f c.args.table.now c.args.row c.copy.new.1.1.1.0 c.requires.f_lt_max_facts c.requires.all_rows_in_bounds (search rules) c.copy.ensures
+    row_written c.args.f c.args.table.now c.args.row c.copy.new.to c.requires.f_lt_max_facts c.requires.all_rows_in_bounds (search rules) c.copy.ensures

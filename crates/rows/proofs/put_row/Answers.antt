@@ -15,5 +15,5 @@ row-row-requires c =
 
 pub returns : goal.returns
 returns c =
-    row_rewritten c.args.t c.args.f (column_in c.column_of-col.result) c.row-row.result c.args.table.now c.put.new.1.1.0 c.column_of-col.ensures c.requires.f_lt_facts
+    row_rewritten c.args.t c.args.f (column_in c.column_of-col.result) c.row-row.result c.args.table.now c.put.new.table c.column_of-col.ensures c.requires.f_lt_facts
     c.row-row.ensures c.put.ensures
