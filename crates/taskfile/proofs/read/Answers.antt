@@ -64,7 +64,7 @@ returns-then-kind-eq-END c =
     let this : kind_at (file) c.loop-known.at ≡ c.kind_at-kind.result = sym c.kind_at-kind.ensures in
     let clean : Clear (file) c.loop-known.at (seen) = clear (file) c.loop-known.at (seen) (faultless) in
     let l = c.loop-known in
-    l.inv.0 c.read_as.result
+    l.invariant.0 c.read_as.result
     (ended (faultless) (this ∙ c.if-kind-eq-END.true) (omega (arith, (clean).begun, c.if-start-s.false))
     (c.read_as.ensures ∙ ap (λ (r : Runs). accepted_read (task_read l.known l.needs l.adds l.deletes l.locks r)) c.runs_read-runs.ensures))
 
@@ -132,13 +132,13 @@ loop-known-preserved c =
     let l = c.loop-known in
     let numbers = c.after-known.ensures in
     let same =
-    one_more (file) l.at l.known l.needs l.adds l.deletes l.locks l.starts l.goals l.counts l.steps l.inv.1
+    one_more (file) l.at l.known l.needs l.adds l.deletes l.locks l.starts l.goals l.counts l.steps l.invariant.1
     c.kind_at-kind.ensures c.byte_at-byte.ensures c.number_at-y.ensures c.last_run-run.ensures numbers
     c.put_cell.ensures.needs_after c.put_cell.ensures.adds_after c.put_cell.ensures.deletes_after c.put_cell.ensures.locks_after c.put_set.ensures.starts_after c.put_set.ensures.goals_after
     c.put_step.ensures.counts_after c.put_step.ensures.steps_after in (
       λ r h.
-          l.inv.0 r
+          l.invariant.0 r
           (good (faultless) (λ is. c.if-kind-eq-END.false (sym (this) ∙ is)) (subst₂ (Reads (file) r) (sym (next)) same h)),
       rw numbers,
-      subst (λ (x : Seen). Shaped x.task) (sym same) (shaped_next (file) l.at (seen) l.inv.2),
+      subst (λ (x : Seen). Shaped x.task) (sym same) (shaped_next (file) l.at (seen) l.invariant.2),
     )

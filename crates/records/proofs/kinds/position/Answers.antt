@@ -50,7 +50,7 @@ returns-in-8 c = rw c.in-8.is
 pub returns-in_default : goal.returns-in_default
 unfolding position_of first_place file_order
 returns-in_default c =
-    let none = c.in_default.rest in
+    let none = c.in_default.in_default-own.rest in
     let kind = c.args.kind in
     rw (
       ne_eqb kind no_kind none.0.0.0.0.0.0.0.0.0.0.1,

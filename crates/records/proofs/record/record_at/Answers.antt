@@ -2,7 +2,6 @@
 use mathlib.Core.Bool.{true}
 use mathlib.Core.Path.{◌≡◌, sym, ap, ◌∙◌}
 use Prim.Native.Nat.{ℕ, ◌<◌}
-use borrow.Author.Tests.{not-true, not-false}
 use native.Mathlib.Omega.{arith}
 use lib.ListN.{length}
 use Rattle.taskformat.specs.Format.{is_kind, body_length}
@@ -20,14 +19,14 @@ returns-then-not-is_kind c =
     c.refused-then-not-is_kind.ensures ∙
     sym
     (unknown _ _ c.if-s-at.false
-    (tested ∙ not-true _ c.if-not-is_kind.true))
+    (tested ∙ c.if-not-is_kind.true))
 
 pub returns-then-s-start : goal.returns-then-s-start
 returns-then-s-start c =
     let begun : c.args.at < length c.args.s.now = c.if-s-at.false in
     let kind : ℕ = kind_at c.args.s.now c.args.at in
     let tested : is_kind (kind) ≡ c.is_kind.result = sym (c.is_kind.ensures ∙ ap is_kind c.kind_at-kind.ensures) in
-    let known : is_kind (kind) ≡ true = tested ∙ not-false _ c.if-not-is_kind.false in
+    let known : is_kind (kind) ≡ true = tested ∙ c.if-not-is_kind.false in
     let lasting : body_length (kind) ≡ c.body_length-length.result = sym (c.body_length-length.ensures ∙ ap body_length c.kind_at-kind.ensures) in
     c.refused-then-s-start.ensures ∙
     sym
@@ -38,7 +37,7 @@ returns c =
     let begun : c.args.at < length c.args.s.now = c.if-s-at.false in
     let kind : ℕ = kind_at c.args.s.now c.args.at in
     let tested : is_kind (kind) ≡ c.is_kind.result = sym (c.is_kind.ensures ∙ ap is_kind c.kind_at-kind.ensures) in
-    let known : is_kind (kind) ≡ true = tested ∙ not-false _ c.if-not-is_kind.false in
+    let known : is_kind (kind) ≡ true = tested ∙ c.if-not-is_kind.false in
     let lasting : body_length (kind) ≡ c.body_length-length.result = sym (c.body_length-length.ensures ∙ ap body_length c.kind_at-kind.ensures) in
     sym
     (whole _ _ (begun) (known) (omega (arith, lasting))
