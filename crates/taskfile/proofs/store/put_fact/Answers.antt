@@ -3,7 +3,6 @@ use mathlib.Core.Bool.{true}
 use mathlib.Core.List.{List}
 use mathlib.Core.Path.{sym, ap, ◌∙◌}
 use Prim.Native.Nat.{ℕ}
-use borrow.Author.Tests.{not-true, not-false}
 use lib.ListN.{set}
 use lib.Seq.{set_out}
 use Rattle.table.specs.Setting.{set_in}
@@ -14,16 +13,16 @@ pub returns-then-not-here : goal.returns-then-not-here
 returns-then-not-here c =
     let before : List ℕ = c.args.sets.now in
     let after : List ℕ = set_in (before) c.args.place c.args.fact true in
-    left_out c.args.here (after) (before) (not-true c.args.here c.if-not-here.true)
+    left_out c.args.here (after) (before) c.if-not-here.true
 
 pub returns-then-sets-place : goal.returns-then-sets-place
 returns-then-sets-place c =
     let before : List ℕ = c.args.sets.now in
     let after : List ℕ = set_in (before) c.args.place c.args.fact true in
-    sym (set_out (before) c.args.place _ c.if-sets-place.true) ∙ put_in c.args.here (after) (before) (not-false c.args.here c.if-not-here.false)
+    sym (set_out (before) c.args.place _ c.if-sets-place.true) ∙ put_in c.args.here (after) (before) c.if-not-here.false
 
 pub returns : goal.returns
 returns c =
     let before : List ℕ = c.args.sets.now in
     let after : List ℕ = set_in (before) c.args.place c.args.fact true in
-    ap (set (before) c.args.place) c.with_fact.ensures ∙ put_in c.args.here (after) (before) (not-false c.args.here c.if-not-here.false)
+    ap (set (before) c.args.place) c.with_fact.ensures ∙ put_in c.args.here (after) (before) c.if-not-here.false
