@@ -10,7 +10,7 @@ loop-i-init c =
     begun _ _ _ _ (rw (each_gathered repair_line c.args.list.now) c.requires)
 
 pub overflow_cast-list : goal.overflow_cast-list
-overflow_cast-list c = omega (arith, c.shared_slice_known-in-loop-i-1.given c.loop-i.i)
+overflow_cast-list c = omega (arith, c.type_inv.list c.loop-i.i)
 
 pub repair_line-next-requires : goal.repair_line-next-requires
 repair_line-next-requires c = next_fits c.loop-i.invariant (search rules)
