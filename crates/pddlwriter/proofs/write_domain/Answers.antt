@@ -3,7 +3,6 @@ use mathlib.Core.Bool.{true}
 use mathlib.Core.Path.{◌≡◌, sym, ◌∙◌}
 use native.Mathlib.Omega.{arith}
 use borrow.Author.Rules.{rules}
-use borrow.Author.Tests.{not-true, not-false}
 use Rattle.table.proofs.Formation.{formed_well}
 use Rattle.table.proofs.OutcomeLaws.{refused_told, given_short}
 use Rattle.table.specs.Refusals.{room_too_short, not_well_formed}
@@ -15,30 +14,30 @@ pub returns-then-not-is_formed : goal.returns-then-not-is_formed
 returns-then-not-is_formed c =
     let tested = c.is_formed.ensures in
     refused_told not_well_formed c.refusal.result _ _ c.refusal.ensures
-    (domain_unformed _ _ (sym tested ∙ not-true _ c.if-not-is_formed.true))
+    (domain_unformed _ _ (sym tested ∙ c.if-not-is_formed.true))
 
 pub length_of_domain-requires : goal.length_of_domain-requires
 length_of_domain-requires c =
     let shaped : Shaped c.args.task = record { needs = search rules; adds = search rules; deletes = search rules; locks = search rules; starts = search rules; goals = search rules; counts = search rules; steps = search rules } in
-    let is-good : formed c.args.task ≡ true = sym c.is_formed.ensures ∙ not-false _ c.if-not-is_formed.false in
+    let is-good : formed c.args.task ≡ true = sym c.is_formed.ensures ∙ c.if-not-is_formed.false in
     let is-well : WellFormed c.args.task = formed_well c.args.task (shaped) (is-good) in
     is-well
 
 pub returns-then-room-length_of_domain : goal.returns-then-room-length_of_domain
 returns-then-room-length_of_domain c =
-    let is-good : formed c.args.task ≡ true = sym c.is_formed.ensures ∙ not-false _ c.if-not-is_formed.false in
+    let is-good : formed c.args.task ≡ true = sym c.is_formed.ensures ∙ c.if-not-is_formed.false in
     refused_told room_too_short c.refusal-then-room-length_of_domain.result _ _ c.refusal-then-room-length_of_domain.ensures
     (domain_given _ _ (is-good) ∙ given_short _ _ (omega (arith, c.length_of_domain.ensures, c.if-room-length_of_domain.true)))
 
 pub whole_domain-end-requires : goal.whole_domain-end-requires
 whole_domain-end-requires c =
     let shaped : Shaped c.args.task = record { needs = search rules; adds = search rules; deletes = search rules; locks = search rules; starts = search rules; goals = search rules; counts = search rules; steps = search rules } in
-    let is-good : formed c.args.task ≡ true = sym c.is_formed.ensures ∙ not-false _ c.if-not-is_formed.false in
+    let is-good : formed c.args.task ≡ true = sym c.is_formed.ensures ∙ c.if-not-is_formed.false in
     let is-well : WellFormed c.args.task = formed_well c.args.task (shaped) (is-good) in
     is-well
 
 pub returns : goal.returns
 returns c =
-    let is-good : formed c.args.task ≡ true = sym c.is_formed.ensures ∙ not-false _ c.if-not-is_formed.false in
+    let is-good : formed c.args.task ≡ true = sym c.is_formed.ensures ∙ c.if-not-is_formed.false in
     given_placed _ _ _ _ (omega (arith, c.length_of_domain.ensures, c.if-room-length_of_domain.false)) c.whole_domain-end.ensures ∙
     sym (domain_given _ _ (is-good))

@@ -4,7 +4,6 @@ use mathlib.Core.Path.{◌≡◌, sym, ◌∙◌}
 use Prim.Native.Nat.{◌<◌}
 use native.Mathlib.Omega.{arith}
 use borrow.Author.Rules.{rules}
-use borrow.Author.Tests.{not-true, not-false}
 use Rattle.table.proofs.Formation.{formed_well}
 use Rattle.table.proofs.OutcomeLaws.{refused_told}
 use Rattle.table.specs.Refusals.{not_well_formed, not_there}
@@ -17,17 +16,17 @@ pub returns-then-not-is_formed : goal.returns-then-not-is_formed
 returns-then-not-is_formed c =
     let tested = c.is_formed.ensures in
     refused_told not_well_formed c.refusal.result _ _ c.refusal.ensures
-    (problem_unformed _ _ _ (sym tested ∙ not-true _ c.if-not-is_formed.true))
+    (problem_unformed _ _ _ (sym tested ∙ c.if-not-is_formed.true))
 
 pub returns-then-task-run : goal.returns-then-task-run
 returns-then-task-run c =
-    let is-good : formed c.args.task ≡ true = sym c.is_formed.ensures ∙ not-false _ c.if-not-is_formed.false in
+    let is-good : formed c.args.task ≡ true = sym c.is_formed.ensures ∙ c.if-not-is_formed.false in
     refused_told not_there c.refusal-then-task-run.result _ _ c.refusal-then-task-run.ensures (problem_missing _ _ _ (is-good) (omega (arith, c.if-task-run.true)))
 
 pub offset_bounds-starts-run : goal.offset_bounds-starts-run
 offset_bounds-starts-run c =
     let shaped : Shaped c.args.task = record { needs = search rules; adds = search rules; deletes = search rules; locks = search rules; starts = search rules; goals = search rules; counts = search rules; steps = search rules } in
-    let is-good : formed c.args.task ≡ true = sym c.is_formed.ensures ∙ not-false _ c.if-not-is_formed.false in
+    let is-good : formed c.args.task ≡ true = sym c.is_formed.ensures ∙ c.if-not-is_formed.false in
     let is-well : WellFormed c.args.task = formed_well c.args.task (shaped) (is-good) in
     let inside : c.args.run < max_runs = omega (arith, (is-well).many_high, c.if-task-run.false) in
     omega (arith, inside)
@@ -35,7 +34,7 @@ offset_bounds-starts-run c =
 pub bounds-starts-run : goal.bounds-starts-run
 bounds-starts-run c =
     let shaped : Shaped c.args.task = record { needs = search rules; adds = search rules; deletes = search rules; locks = search rules; starts = search rules; goals = search rules; counts = search rules; steps = search rules } in
-    let is-good : formed c.args.task ≡ true = sym c.is_formed.ensures ∙ not-false _ c.if-not-is_formed.false in
+    let is-good : formed c.args.task ≡ true = sym c.is_formed.ensures ∙ c.if-not-is_formed.false in
     let is-well : WellFormed c.args.task = formed_well c.args.task (shaped) (is-good) in
     let inside : c.args.run < max_runs = omega (arith, (is-well).many_high, c.if-task-run.false) in
     omega (arith, inside)
@@ -43,7 +42,7 @@ bounds-starts-run c =
 pub offset_bounds-goals-run : goal.offset_bounds-goals-run
 offset_bounds-goals-run c =
     let shaped : Shaped c.args.task = record { needs = search rules; adds = search rules; deletes = search rules; locks = search rules; starts = search rules; goals = search rules; counts = search rules; steps = search rules } in
-    let is-good : formed c.args.task ≡ true = sym c.is_formed.ensures ∙ not-false _ c.if-not-is_formed.false in
+    let is-good : formed c.args.task ≡ true = sym c.is_formed.ensures ∙ c.if-not-is_formed.false in
     let is-well : WellFormed c.args.task = formed_well c.args.task (shaped) (is-good) in
     let inside : c.args.run < max_runs = omega (arith, (is-well).many_high, c.if-task-run.false) in
     omega (arith, inside)
@@ -51,7 +50,7 @@ offset_bounds-goals-run c =
 pub bounds-goals-run : goal.bounds-goals-run
 bounds-goals-run c =
     let shaped : Shaped c.args.task = record { needs = search rules; adds = search rules; deletes = search rules; locks = search rules; starts = search rules; goals = search rules; counts = search rules; steps = search rules } in
-    let is-good : formed c.args.task ≡ true = sym c.is_formed.ensures ∙ not-false _ c.if-not-is_formed.false in
+    let is-good : formed c.args.task ≡ true = sym c.is_formed.ensures ∙ c.if-not-is_formed.false in
     let is-well : WellFormed c.args.task = formed_well c.args.task (shaped) (is-good) in
     let inside : c.args.run < max_runs = omega (arith, (is-well).many_high, c.if-task-run.false) in
     omega (arith, inside)
@@ -59,11 +58,11 @@ bounds-goals-run c =
 pub tell_problem-requires : goal.tell_problem-requires
 tell_problem-requires c =
     let shaped : Shaped c.args.task = record { needs = search rules; adds = search rules; deletes = search rules; locks = search rules; starts = search rules; goals = search rules; counts = search rules; steps = search rules } in
-    let is-good : formed c.args.task ≡ true = sym c.is_formed.ensures ∙ not-false _ c.if-not-is_formed.false in
+    let is-good : formed c.args.task ≡ true = sym c.is_formed.ensures ∙ c.if-not-is_formed.false in
     let is-well : WellFormed c.args.task = formed_well c.args.task (shaped) (is-good) in
     (is-well).facts_high
 
 pub returns : goal.returns
 returns c =
-    let is-good : formed c.args.task ≡ true = sym c.is_formed.ensures ∙ not-false _ c.if-not-is_formed.false in
+    let is-good : formed c.args.task ≡ true = sym c.is_formed.ensures ∙ c.if-not-is_formed.false in
     problem_given _ _ _ _ (is-good) (omega (arith, c.if-task-run.false)) c.tell_problem.ensures
