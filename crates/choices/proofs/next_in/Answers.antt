@@ -1,7 +1,6 @@
 -- `choices::next_in` looks at the kinds in turn: each that is passed has no code from there on.
 use Prim.Native.Nat.{◌*◌}
 use native.Mathlib.Omega.{arith}
-use borrow.Author.Rules.{rules}
 use Rattle.table.specs.Repairs.{drop_delete, add_effect, drop_need}
 use Rattle.table.specs.Sizes.{per_kind}
 use Rattle.choices.proofs.MaskLaws.{NoneIn, next_none, next_here}
