@@ -1,6 +1,6 @@
 -- Laws of the bound: sets of repairs that share none, each lacking to the candidate with the earlier ones put in, cost a repair
 -- each.
-use mathlib.Core.Bool.{Bool, true, false, not, true≢false, ◌||◌}
+use mathlib.Core.Bool.{Bool, true, false, true≢false, ◌||◌}
 use mathlib.Core.List.{List}
 use mathlib.Core.Logic.{◌⊎◌, inl, inr}
 use mathlib.Core.Path.{◌≡◌, sym, ◌∙◌, subst}

@@ -13,7 +13,7 @@ use borrow.Author.Tests.{eq-eqb, eqb-true, not-true}
 use Rattle.facts.specs.Sets.{width, has, joined, removed, only}
 use Rattle.facts.proofs.Laws.{has_empty, has_joined, has_removed, has_only}
 use Rattle.table.specs.Sizes.{max_actions, kinds, per_fact}
-use Rattle.table.specs.Strips.{Cells, Course, Courses, one, state_at, Right}
+use Rattle.table.specs.Strips.{Cells, Course, one, state_at, Right}
 use Rattle.table.specs.Order.{is_in}
 use Rattle.table.specs.Repairs.{by_kind, number_of, drop_delete, add_effect, drop_need, repairable, chosen, repaired, permits}
 use Rattle.table.proofs.FlagLaws.{or_cases, or_left, or_right, and_left, and_right, and_both, is_false, by_order}
@@ -25,7 +25,7 @@ use Rattle.choices.specs.declared.Choice.{Choice}
 use Rattle.choices.specs.Choices.{in_choice, code_of, code_kind, code_action, code_number, numbers_in, Apart}
 use Rattle.search.specs.Columns.{Column, cells_in, KeepsIn, RunFormed}
 use Rattle.search.specs.Gaps.{LastDelete, Named, need_at, that_delete, add_between, ConflictAt, ActionsOf}
-use Rattle.search.specs.Searching.{cells_with, NeededAt, by_step, by_goal, Missing, Allowed, Conflicts}
+use Rattle.search.specs.Searching.{cells_with, NeededAt, by_step, by_goal, Missing, Allowed}
 use Rattle.choices.specs.Trying.{mask_in}
 use Rattle.choices.proofs.ChoiceLaws.{find_code}
 use Rattle.choices.proofs.MaskLaws.{chosen_has, in_choice_has}

@@ -1,5 +1,5 @@
 -- What each part of the search promises: document 01, "A conflict" and "When a candidate still fails".
-use Rattle.std.specs.Prelude.{Bool, true, false, List, ◌≡◌, ℕ, ◌+◌, ◌<◌, ◌≤◌, length}
+use Rattle.std.specs.Prelude.{Bool, true, false, List, ◌≡◌, ℕ, ◌<◌, ◌≤◌, length}
 use Rattle.table.specs.Answer.{First}
 use Rattle.table.specs.Order.{is_in}
 use Rattle.table.specs.Repairs.{permitted, repaired}
