@@ -4,3 +4,4 @@ pub mod PlaceLaws
 pub mod GatherLaws
 pub mod TogetherLaws
 pub mod WellLaws
+pub mod ReadLaws

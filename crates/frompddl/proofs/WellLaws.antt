@@ -72,7 +72,7 @@ next_sound (gathering.outside p reads bad e) ok g = absurd (bad (sym (ap (λ (q 
 next_sound {t = t} (gathering.read p reads fine e) ok g =
     subst (λ (q : TaskReply). Sound q.task) (sym e) (added_sound t p.start p.goal _ g)
 
-gathers_sound : {s : List ℕ} {beside t : Task} {r : Gathered} {at n : ℕ} → Gathers s beside r at n t → r.number ≡ accepted → Sound t
+gathers_sound : {s : List ℕ} {beside : Task} {r : Gathered} {at n : ℕ} {t : Task} → Gathers s beside r at n t → r.number ≡ accepted → Sound t
     → Sound r.task
 gathers_sound (last h e) ok g = subst (λ (r : Gathered). Sound r.task) (sym e) g
 gathers_sound (ninth h many e) ok g = absurd (omega (arith, ap (λ (r : Gathered). r.number) e))

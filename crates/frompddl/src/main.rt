@@ -8,11 +8,13 @@ mod gather;
 mod split;
 mod together;
 
+ghost use Rattle.std.specs.Prelude.{take, length, ◌≡◌, ◌≤◌, IfOk, IfSome};
 ghost use Rattle.table.specs.Tasks.{WellFormed};
 ghost use Rattle.frompddl.specs.Together.{HoldsFile};
 
-use libc::{STDERR_FILENO, STDIN_FILENO, STDOUT_FILENO};
 use pddlwriter::{LONGEST_DOMAIN, LONGEST_PROBLEM};
+use std::io;
+use std::io::Read;
 use table::refusals::ACCEPTED;
 use table::{RUNS, Task};
 use taskfile::MOST_INPUT;
@@ -21,22 +23,25 @@ use together::put_together;
 // How much is looked at: the longest texts, and as much of the task file as zernoplysk reads.
 const MOST_BYTES: usize = LONGEST_DOMAIN + RUNS * LONGEST_PROBLEM + MOST_INPUT;
 
-// Whether standard input ended after so many bytes, or gave as many as are looked at. `read_full` stops alike at the end and at a
-// read that fails; so where it stopped early, one read more has to say that there is nothing more.
-fn is_whole(got: usize) -> bool {
-    if got == MOST_BYTES {
-        return true;
+// Reads until the buffer is full or the input ends, and returns how many bytes it put at the start of the buffer: of the bytes that
+// stood there, all that the buffer has room for.
+fn read_full<R: Read>(input: &mut R, buffer: &mut [u8]) -> io::Result<usize>
+    ensures within { IfOk result (λ n. n ≤ length buffer.new) }
+    ensures bytes { IfOk result (λ n. IfSome (R.remaining input.old) (λ s. take n buffer.new ≡ take (length buffer.new) s)) }
+{
+    let mut got = 0;
+    while got < buffer.len() {
+        let more = input.read(&mut buffer[got..])?;
+        if more == 0 {
+            break;
+        }
+        got += more;
     }
-    let mut next = [0u8; 1];
-    libc::read(STDIN_FILENO, &mut next) == 0
+    Ok(got)
 }
 
-fn print_refusal(number: usize, place: usize) -> bool {
-    io::write_all(STDOUT_FILENO, b"refused ")
-        & io::print_decimal(STDOUT_FILENO, number as u64)
-        & io::write_all(STDOUT_FILENO, b" ")
-        & io::print_decimal(STDOUT_FILENO, place as u64)
-        & io::write_all(STDOUT_FILENO, b"\n")
+fn print_refusal(rt: &impl Print, number: usize, place: usize) -> io::Result<()> {
+    println!(rt; "refused {number} {place}")
 }
 
 // How many bytes of the room are the task's file: never is it too short.
@@ -48,33 +53,34 @@ fn whole_file(task: Task, room: &mut [u8; MOST_INPUT]) -> usize
     told.length
 }
 
-fn print_file(task: Task) -> bool
+fn print_file(rt: &impl Print, task: Task) -> io::Result<()>
     requires { WellFormed task }
 {
     let mut room = [0u8; MOST_INPUT];
     let length = whole_file(task, &mut room);
-    io::write_all(STDOUT_FILENO, &room[..length])
+    rt.write_all(&room[..length])
 }
 
-fn print_answer(input: &[u8]) -> bool {
+fn print_answer(rt: &impl Print, input: &[u8]) -> io::Result<()> {
     let told = put_together(input);
     if told.number != ACCEPTED {
-        return print_refusal(told.number, told.place);
+        return print_refusal(rt, told.number, told.place);
     }
-    print_file(told.task)
+    print_file(rt, told.task)
 }
 
-fn main() {
+// Says on standard error what went wrong. There is nowhere to say that this can't be written.
+fn complain(rt: &impl Eprint, line: &str) {
+    let _ = rt.eprintln(line);
+}
+
+fn main(rt: HostRuntime) {
     let mut input = [0u8; MOST_BYTES];
-    let got = io::read_full(STDIN_FILENO, &mut input);
-    if !is_whole(got) {
-        io::write_all(STDERR_FILENO, b"frompddl: standard input can't be read\n");
+    let Ok(got) = read_full(&mut rt.stdin(), &mut input) else {
+        complain(&rt, "frompddl: standard input can't be read");
         return;
-    }
-    if !print_answer(&input[..got]) {
-        io::write_all(
-            STDERR_FILENO,
-            b"frompddl: standard output can't be written\n",
-        );
+    };
+    if print_answer(&rt, &input[..got]).is_err() {
+        complain(&rt, "frompddl: standard output can't be written");
     }
 }

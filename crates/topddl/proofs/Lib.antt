@@ -1,3 +1,4 @@
 -- The laws of the program.
 pub mod RepairedLaws
 pub mod NumberedLaws
+pub mod ReadLaws

@@ -1,2 +1,3 @@
 -- The laws of the program.
 pub mod PrintLaws
+pub mod ReadLaws

@@ -2,12 +2,13 @@
 
 #![tactic(auto)]
 
-ghost use Rattle.std.specs.Prelude.{take};
+ghost use Rattle.std.specs.Prelude.{take, length, ◌≤◌, IfOk, IfSome};
 ghost use Rattle.listing.specs.Listing.{ListsInto};
-ghost use Rattle.zernoplysk.specs.Printing.{Prints};
+ghost use Rattle.zernoplysk.specs.Printing.{Got, Prints};
 
-use libc::{STDERR_FILENO, STDIN_FILENO, STDOUT_FILENO};
 use listing::LONGEST_TEXT;
+use std::io;
+use std::io::Read;
 use table::Reply;
 use taskfile::MOST_INPUT;
 
@@ -30,29 +31,37 @@ fn listed(input: &[u8; MOST_INPUT], got: usize, text: &mut [u8; LONGEST_TEXT]) -
     told.length
 }
 
-// Whether standard input ended after so many bytes, or gave as many as are looked at. `read_full` stops alike at the end and at a
-// read that fails; so where it stopped early, one read more has to say that there is nothing more.
-fn is_whole(got: usize) -> bool {
-    if got == MOST_INPUT {
-        return true;
+// Reads until the buffer is full or the input ends, and returns how many bytes it put at the start of the buffer: of the bytes that
+// stood there, all that the buffer has room for.
+fn read_full<R: Read>(input: &mut R, buffer: &mut [u8]) -> io::Result<usize>
+    ensures within { IfOk result (λ n. n ≤ length buffer.new) }
+    ensures bytes { IfOk result (λ n. IfSome (R.remaining input.old) (λ s. Got s buffer.new n)) }
+{
+    let mut got = 0;
+    while got < buffer.len() {
+        let more = input.read(&mut buffer[got..])?;
+        if more == 0 {
+            break;
+        }
+        got += more;
     }
-    let mut next = [0u8; 1];
-    libc::read(STDIN_FILENO, &mut next) == 0
+    Ok(got)
 }
 
-fn main() {
+// Says on standard error what went wrong. There is nowhere to say that this can't be written.
+fn complain(rt: &impl Eprint, line: &str) {
+    let _ = rt.eprintln(line);
+}
+
+fn main(rt: HostRuntime) {
     let mut input = [0u8; MOST_INPUT];
-    let got = io::read_full(STDIN_FILENO, &mut input);
-    if !is_whole(got) {
-        io::write_all(STDERR_FILENO, b"zernoplysk: standard input can't be read\n");
+    let Ok(got) = read_full(&mut rt.stdin(), &mut input) else {
+        complain(&rt, "zernoplysk: standard input can't be read");
         return;
-    }
+    };
     let mut text = [0u8; LONGEST_TEXT];
     let length = listed(&input, got, &mut text);
-    if !io::write_all(STDOUT_FILENO, &text[..length]) {
-        io::write_all(
-            STDERR_FILENO,
-            b"zernoplysk: standard output can't be written\n",
-        );
+    if rt.write_all(&text[..length]).is_err() {
+        complain(&rt, "zernoplysk: standard output can't be written");
     }
 }
