@@ -2,7 +2,6 @@
 use mathlib.Core.Bool.{true, not}
 use mathlib.Core.Path.{◌≡◌, sym, ap, ◌∙◌, subst}
 use borrow.Author.Rules.{rules}
-use borrow.Author.Tests.{not-true}
 use native.Mathlib.Omega.{arith}
 use Rattle.change.proofs.EditLaws.{edited_exactly, edited_well}
 use Rattle.change.specs.Editing.{edited, cell_inside, leaves_lock, accepts}
@@ -19,11 +18,11 @@ returns-then-not-is_formed c =
     let a = c.args in
     rw c.refuse_edit.ensures
     (edits_refused a.t a.table.now a.e not_well_formed (omega arith)
-    (edit_malformed a.t a.table.now a.e (told_unformed a.t c.is_formed.ensures c.if-not-is_formed.true)))
+    (edit_malformed a.t a.table.now a.e (told_unformed a.t c.is_formed.ensures (ap not c.if-not-is_formed.true))))
 
 pub returns-then-table-ne-SESSION_PLACES : goal.returns-then-table-ne-SESSION_PLACES
 returns-then-table-ne-SESSION_PLACES c =
-    let well : WellFormed c.args.t = let shaped : Shaped c.args.t = search rules in told_formed c.args.t shaped c.is_formed.ensures c.if-not-is_formed.false in
+    let well : WellFormed c.args.t = let shaped : Shaped c.args.t = search rules in told_formed c.args.t shaped c.is_formed.ensures (ap not c.if-not-is_formed.false) in
     let a = c.args in
     rw c.refuse_edit-then-table-ne-SESSION_PLACES.ensures
     (edits_refused a.t a.table.now a.e not_aSession (omega arith)
@@ -31,17 +30,17 @@ returns-then-table-ne-SESSION_PLACES c =
 
 pub returns-then-not-is_inside : goal.returns-then-not-is_inside
 returns-then-not-is_inside c =
-    let well : WellFormed c.args.t = let shaped : Shaped c.args.t = search rules in told_formed c.args.t shaped c.is_formed.ensures c.if-not-is_formed.false in
+    let well : WellFormed c.args.t = let shaped : Shaped c.args.t = search rules in told_formed c.args.t shaped c.is_formed.ensures (ap not c.if-not-is_formed.false) in
     let inside = c.is_inside in
     let a = c.args in
     rw c.refuse_edit-then-not-is_inside.ensures
     (edits_refused a.t a.table.now a.e not_there (omega arith)
     (edit_outside a.t a.table.now a.e (well_formed a.t (well)) c.if-table-ne-SESSION_PLACES.false
-    (sym inside.ensures ∙ not-true inside.result c.if-not-is_inside.true)))
+    (sym inside.ensures ∙ c.if-not-is_inside.true)))
 
 pub returns-then-leaves_lock : goal.returns-then-leaves_lock
 returns-then-leaves_lock c =
-    let well : WellFormed c.args.t = let shaped : Shaped c.args.t = search rules in told_formed c.args.t shaped c.is_formed.ensures c.if-not-is_formed.false in
+    let well : WellFormed c.args.t = let shaped : Shaped c.args.t = search rules in told_formed c.args.t shaped c.is_formed.ensures (ap not c.if-not-is_formed.false) in
     let inside : let a = c.args in cell_inside a.t a.e.cell ≡ true = sym c.is_inside.ensures ∙ c.if-not-is_inside.false in
     let left = c.leaves_lock in
     let a = c.args in
@@ -51,7 +50,7 @@ returns-then-leaves_lock c =
 
 pub put_row-requires : goal.put_row-requires
 put_row-requires c =
-    let well : WellFormed c.args.t = let shaped : Shaped c.args.t = search rules in told_formed c.args.t shaped c.is_formed.ensures c.if-not-is_formed.false in
+    let well : WellFormed c.args.t = let shaped : Shaped c.args.t = search rules in told_formed c.args.t shaped c.is_formed.ensures (ap not c.if-not-is_formed.false) in
     let inside : let a = c.args in cell_inside a.t a.e.cell ≡ true = sym c.is_inside.ensures ∙ c.if-not-is_inside.false in
     let made : let a = c.args in accepts a.t a.e ≡ true = let a = c.args in and_both (cell_inside a.t a.e.cell) (not (leaves_lock a.t a.e)) (inside) (ap not (sym c.leaves_lock.ensures ∙ c.if-leaves_lock.false)) in
     let a = c.args in record {
@@ -63,7 +62,7 @@ put_row-requires c =
 
 pub returns : goal.returns
 returns c =
-    let well : WellFormed c.args.t = let shaped : Shaped c.args.t = search rules in told_formed c.args.t shaped c.is_formed.ensures c.if-not-is_formed.false in
+    let well : WellFormed c.args.t = let shaped : Shaped c.args.t = search rules in told_formed c.args.t shaped c.is_formed.ensures (ap not c.if-not-is_formed.false) in
     let inside : let a = c.args in cell_inside a.t a.e.cell ≡ true = sym c.is_inside.ensures ∙ c.if-not-is_inside.false in
     let made : let a = c.args in accepts a.t a.e ≡ true = let a = c.args in and_both (cell_inside a.t a.e.cell) (not (leaves_lock a.t a.e)) (inside) (ap not (sym c.leaves_lock.ensures ∙ c.if-leaves_lock.false)) in
     let a = c.args in

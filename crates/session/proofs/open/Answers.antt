@@ -1,4 +1,6 @@
 -- `session::open` meets its contract: a law for each way out. Assumes nothing.
+use mathlib.Core.Bool.{not}
+use mathlib.Core.Path.{ap}
 use borrow.Author.Rules.{rules}
 use native.Mathlib.Omega.{arith}
 use Rattle.table.proofs.Formation.{told_formed, told_unformed, well_formed}
@@ -14,11 +16,11 @@ returns-then-not-is_formed c =
     let a = c.args in
     rw c.refusal.ensures
     (opens_refused a.t a.table.now not_well_formed (omega arith)
-    (open_malformed a.t a.table.now (told_unformed a.t c.is_formed.ensures c.if-not-is_formed.true)))
+    (open_malformed a.t a.table.now (told_unformed a.t c.is_formed.ensures (ap not c.if-not-is_formed.true))))
 
 pub returns-then-table-ne-SESSION_PLACES : goal.returns-then-table-ne-SESSION_PLACES
 returns-then-table-ne-SESSION_PLACES c =
-    let well : WellFormed c.args.t = let shaped : Shaped c.args.t = search rules in told_formed c.args.t shaped c.is_formed.ensures c.if-not-is_formed.false in
+    let well : WellFormed c.args.t = let shaped : Shaped c.args.t = search rules in told_formed c.args.t shaped c.is_formed.ensures (ap not c.if-not-is_formed.false) in
     let a = c.args in
     rw c.refusal-then-table-ne-SESSION_PLACES.ensures
     (opens_refused a.t a.table.now not_aSession (omega arith)
@@ -29,7 +31,7 @@ empty_rows-requires c = omega (arith, c.if-table-ne-SESSION_PLACES.false, sessio
 
 pub fill-requires : goal.fill-requires
 fill-requires c =
-    let well : WellFormed c.args.t = let shaped : Shaped c.args.t = search rules in told_formed c.args.t shaped c.is_formed.ensures c.if-not-is_formed.false in
+    let well : WellFormed c.args.t = let shaped : Shaped c.args.t = search rules in told_formed c.args.t shaped c.is_formed.ensures (ap not c.if-not-is_formed.false) in
     let empty = c.empty_rows.ensures in
     record {
       well_formed = well;
@@ -39,6 +41,6 @@ fill-requires c =
 
 pub returns : goal.returns
 returns c =
-    let well : WellFormed c.args.t = let shaped : Shaped c.args.t = search rules in told_formed c.args.t shaped c.is_formed.ensures c.if-not-is_formed.false in
+    let well : WellFormed c.args.t = let shaped : Shaped c.args.t = search rules in told_formed c.args.t shaped c.is_formed.ensures (ap not c.if-not-is_formed.false) in
     let a = c.args in
-    opens_opened a.t a.table.now (well_formed a.t (well)) c.if-table-ne-SESSION_PLACES.false _ (emptied_filled a.t a.table.now c.empty_rows.new.0 _ c.empty_rows.ensures c.fill.ensures)
+    opens_opened a.t a.table.now (well_formed a.t (well)) c.if-table-ne-SESSION_PLACES.false _ (emptied_filled a.t a.table.now c.empty_rows.new.table _ c.empty_rows.ensures c.fill.ensures)

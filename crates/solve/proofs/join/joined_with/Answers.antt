@@ -32,5 +32,5 @@ pub returns : goal.returns
 returns c =
     let seven : length c.args.row ≡ row_places = search rules in
     let six : length c.args.joined.list ≡ max_limit = search rules in
-    joins_row c.args.joined c.args.row seven c.requires.row_bound c.announced-count.result c.announced-count.ensures c.copy.new.1.1.1.0
+    joins_row c.args.joined c.args.row seven c.requires.row_bound c.announced-count.result c.announced-count.ensures c.copy.new.to
     (omega (arith, c.if-total-gt-LIMIT.false, six)) c.copy.ensures

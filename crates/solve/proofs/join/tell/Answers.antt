@@ -29,6 +29,6 @@ returns c =
     let given : let a = c.args in (c.answered-reply.result.length ≡ a.joined.total) × (a.joined.total ≤ a.limit) × (a.joined.total ≤ length a.room.now) = let a = c.args in reply_given a.joined.hopeless a.joined.over a.joined.total a.limit (length a.room.now) c.answered-reply.result c.answered-reply.ensures c.if-reply-eq0.false in
     let a = c.args in (
       c.answered-reply.ensures,
-      first_pasted a.room.now a.joined.list c.copy.new.1.1.1.0 a.joined.total c.answered-reply.result.length
+      first_pasted a.room.now a.joined.list c.copy.new.to a.joined.total c.answered-reply.result.length
           c.copy.ensures (given).0,
     )

@@ -21,5 +21,5 @@ pub returns : goal.returns
 returns c =
     let a = c.args in
     answered_told a.table.now a.t.table.facts a.t.table.limit a.room.now c.sum_rows-sum.result c.sum_rows-sum.ensures
-    c.answered-reply.result c.answered-reply.ensures c.if-reply-eq0.false c.write_lists.new.1.1.0
+    c.answered-reply.result c.answered-reply.ensures c.if-reply-eq0.false c.write_lists.new.room
     c.write_lists.ensures

@@ -47,7 +47,7 @@ pub loop-f-preserved : goal.loop-f-preserved
 loop-f-preserved c =
     let repairs-here : c.announced-count.result ≡ repairs_in (row_at c.args.table.now c.loop-f.f) = let first = c.first_at in announced_repairs _ first.result c.announced-count.result first.ensures c.announced-count.ensures in
     listed_more c.args.table.now c.args.facts c.args.room.now c.requires.facts_le_max_facts c.requires.readable c.requires.facts_in_bounds c.loop-f.room
-    c.copy.new.1.1.1.0 c.loop-f.at c.loop-f.f c.announced-count.result
+    c.copy.new.to c.loop-f.at c.loop-f.f c.announced-count.result
     (omega arith) (repairs-here) c.copy.ensures c.loop-f.invariant
 
 pub shape_of-room : goal.shape_of-room
