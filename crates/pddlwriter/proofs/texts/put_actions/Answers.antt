@@ -1,47 +1,42 @@
-use Prim.Native.Nat.{◌*◌, ◌<◌}
+use Prim.Native.Nat.{ℕ, ◌<◌}
 use native.Mathlib.Nat.{lt_of_lt_of_le}
 use native.Mathlib.Omega.{arith}
-use mir.Syntax.{w64}
-use mir.Val.{Fits}
 use Rattle.room.proofs.Gathering.{begun, next_fits, one_more, all_placed, length_kept}
 use Rattle.table.specs.Sizes.{max_actions}
+use Rattle.table.specs.Tasks.{WellFormed}
+use Rattle.table.specs.declared.Task.{Task}
 use Rattle.pddlwriter.proofs.texts.put_actions.Goals as goal
+
+-- An action of the task has its place in each array.
+inside : {t : Task} {action : ℕ} → WellFormed t → action < t.table.actions → action < max_actions
+inside well below = lt_of_lt_of_le below well.actions_high
 
 pub loop-action-init : goal.loop-action-init
 loop-action-init c = begun _ _ _ _ c.requires.actions_bound
 
 pub offset_bounds-needs-action : goal.offset_bounds-needs-action
 offset_bounds-needs-action c =
-    let inside : c.loop-action.action < max_actions = lt_of_lt_of_le c.loop-action-test.true c.requires.well_formed.actions_high in
-    let scaled : Fits w64 (c.loop-action.action * 8) = omega (arith, inside) in
-    scaled
+    omega (arith, inside c.requires.well_formed c.loop-action-test.true)
 
 pub bounds-needs-action : goal.bounds-needs-action
 bounds-needs-action c =
-    let inside : c.loop-action.action < max_actions = lt_of_lt_of_le c.loop-action-test.true c.requires.well_formed.actions_high in
-    inside
+    inside c.requires.well_formed c.loop-action-test.true
 
 pub offset_bounds-adds-action : goal.offset_bounds-adds-action
 offset_bounds-adds-action c =
-    let inside : c.loop-action.action < max_actions = lt_of_lt_of_le c.loop-action-test.true c.requires.well_formed.actions_high in
-    let scaled : Fits w64 (c.loop-action.action * 8) = omega (arith, inside) in
-    scaled
+    omega (arith, inside c.requires.well_formed c.loop-action-test.true)
 
 pub bounds-adds-action : goal.bounds-adds-action
 bounds-adds-action c =
-    let inside : c.loop-action.action < max_actions = lt_of_lt_of_le c.loop-action-test.true c.requires.well_formed.actions_high in
-    inside
+    inside c.requires.well_formed c.loop-action-test.true
 
 pub offset_bounds-deletes-action : goal.offset_bounds-deletes-action
 offset_bounds-deletes-action c =
-    let inside : c.loop-action.action < max_actions = lt_of_lt_of_le c.loop-action-test.true c.requires.well_formed.actions_high in
-    let scaled : Fits w64 (c.loop-action.action * 8) = omega (arith, inside) in
-    scaled
+    omega (arith, inside c.requires.well_formed c.loop-action-test.true)
 
 pub bounds-deletes-action : goal.bounds-deletes-action
 bounds-deletes-action c =
-    let inside : c.loop-action.action < max_actions = lt_of_lt_of_le c.loop-action-test.true c.requires.well_formed.actions_high in
-    inside
+    inside c.requires.well_formed c.loop-action-test.true
 
 pub put_action-next-requires : goal.put_action-next-requires
 put_action-next-requires c = next_fits c.loop-action.invariant c.loop-action-test.true
