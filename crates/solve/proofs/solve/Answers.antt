@@ -36,7 +36,7 @@ row-row-requires c =
     let well : WellFormed c.args.t = let shaped : Shaped c.args.t = search rules in told_formed c.args.t shaped c.is_formed.ensures (ap not c.if-not-is_formed.false) in
     let some : 0 < c.loop-left.left = pos_of_ne-zero c.loop-left-test.true in
     let column = joining_column c.args.t (well) c.loop-left.left c.loop-left.joined c.loop-left.invariant (some) c.lowest-f.result c.lowest-f.ensures (column_in c.column_of-col.result) c.column_of-col.ensures in
-    record { column_formed = column.0; col_bound = column.1; }
+    record { column_formed = column.0; col_bound = column.1 }
 
 pub joined_with-joined-requires : goal.joined_with-joined-requires
 joined_with-joined-requires c =
