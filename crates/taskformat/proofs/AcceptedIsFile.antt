@@ -15,7 +15,7 @@ use Rattle.taskformat.specs.Format.{sizes_kind, end_kind, is_cell_kind, body_len
 use Rattle.taskformat.specs.Reading.{Seen, nothing_seen, kind_at, byte_at, body_at, next_at, table_after, seen_after, fault_at, Reads, ReadsFile, faulty, good, ended, trailing}
 use Rattle.taskformat.proofs.Clear.{Clear, clear}
 use Rattle.table.proofs.GatherLaws.{gather_same, gather_next}
-use Rattle.taskformat.proofs.Ranks.{ranks, rank, sizes_record, piece_at, sizes_first, gather_up_to}
+use Rattle.taskformat.proofs.Ranks.{ranks, sizes_record, piece_at, sizes_first, gather_up_to}
 use Rattle.taskformat.proofs.Sections.{file_by_rank}
 use Rattle.taskformat.proofs.PositionLaws.{order, apart}
 use Rattle.taskformat.proofs.Families.{Family, of_none, of_sizes, of_run, of_fact, of_cell, of_step, family}

@@ -14,6 +14,7 @@ pub mod OneMore
 pub mod SetsAfter
 pub mod RecordsAfter
 pub mod GoodFits
+pub mod Ordered
 pub mod Standing
 pub mod FirstRecord
 pub mod AcceptedIsFile

@@ -1,18 +1,18 @@
 -- What holds of what has been seen after the first record: a well-formed task whose last record is the last record read.
 -- Every good record keeps it and comes later in rank. Assumes nothing.
-use mathlib.Core.Bool.{Bool, true, false, not, ◌&&◌, ◌||◌}
+use mathlib.Core.Bool.{Bool, true, false}
 use mathlib.Core.List.{List, []}
 use mathlib.Core.Logic.{◌⊎◌, inl, inr}
 use mathlib.Core.Path.{◌≡◌, refl, sym, ap, ◌∙◌}
 use Prim.Native.Nat.{ℕ, ◌+◌, ◌<◌, ◌≤◌}
 use native.Mathlib.Omega.{arith}
-use lib.Dec.{eqb, leb, ltb}
-use borrow.Author.Tests.{eqb-true, eqb-false, eq-eqb, ne_eqb, leb-false, ltb-false}
+use lib.Dec.{eqb}
+use borrow.Author.Tests.{eqb-true, eqb-false, eq-eqb, ne_eqb}
 use Rattle.table.specs.Tasks.{count_of, WellFormed}
-use Rattle.table.proofs.FlagLaws.{or_neither}
 use Rattle.table.specs.declared.Task.{Task}
-use Rattle.taskformat.specs.Format.{sizes_kind, run_kind, start_kind, lock_kind, step_kind, end_kind, is_cell_kind, is_fact_kind, position_of}
+use Rattle.taskformat.specs.Format.{sizes_kind, run_kind, start_kind, lock_kind, step_kind, end_kind, position_of}
 use Rattle.taskformat.specs.Reading.{Seen, last_run, kind_at, byte_at, body_at, disordered, runs_after, seen_after}
+use Rattle.taskformat.proofs.Ordered.{ordered_parts}
 use Rattle.taskformat.proofs.Ranks.{slots, rank, piece_at}
 use Rattle.taskformat.proofs.PositionLaws.{order, position_known, one_kind}
 use Rattle.taskformat.proofs.Families.{FactKind, CellKind, family_between}
@@ -38,32 +38,6 @@ pub record Standing (seen : Seen) (slot : ℕ) : Type 0 where
   pub above : (r : ℕ) → last_rank seen slot < r → piece_at seen.task r ≡ []
 
 -- ---- it comes later than the last record
-
-ordered_kind : (k : ℕ) → position_of start_kind ≤ position_of k → position_of k ≤ position_of lock_kind → (is_fact_kind k || is_cell_kind k) ≡ true
-ordered_kind k l h = by (family_between k l h)
-  where
-    by : FactKind k ⊎ CellKind k → (is_fact_kind k || is_cell_kind k) ≡ true
-    by (inl kind) = rw kind.fact
-    by (inr kind) = rw (kind.not_fact, kind.cell)
-
--- What it is for a record to be in order.
-record Ordered (seen : Seen) (k b : ℕ) : Type 0 where
-  up : (k ≡ run_kind → ⊥) → position_of seen.kind ≤ position_of k
-  first : is_cell_kind k ≡ true → last_run seen.task.runs ≡ 0
-  ascends : k ≡ seen.kind → position_of start_kind ≤ position_of k → position_of k ≤ position_of lock_kind → seen.body < b
-
-ordered_parts : (seen : Seen) (k b : ℕ) → disordered seen k b ≡ false → Ordered seen k b
-unfolding disordered
-ordered_parts seen k b e =
-    let down = not (eqb k run_kind) && ltb (position_of k) (position_of seen.kind) in
-    let stray = is_cell_kind k && ltb 0 (last_run seen.task.runs) in
-    let parts = or_neither (down || stray) (eqb k seen.kind && (is_fact_kind k || is_cell_kind k) && leb b seen.body) e in
-    let firsts = or_neither down stray parts.0 in
-    record {
-      up = λ other. ltb-false (position_of k) (position_of seen.kind) (rw (ne_eqb k run_kind other) at firsts.0);
-      first = λ cell. let none = ltb-false 0 (last_run seen.task.runs) (rw cell at firsts.1) in omega arith;
-      ascends = λ is l h. leb-false b seen.body (rw (eq-eqb k seen.kind is, ordered_kind k l h) at parts.1);
-    }
 
 module _ (seen : Seen) (slot k x y z : ℕ) (stands : Standing seen slot) (tells : Fitted seen.task k x y) where
   abbrev next : ℕ
