@@ -7,9 +7,6 @@ use Rattle.table.specs.Sizes.{row_places}
 use Rattle.rows.proofs.TableLaws.{row_number}
 use Rattle.solve.proofs.report.first_at.Goals as goal
 
-pub overflow_cast-result : goal.overflow_cast-result
-overflow_cast-result c = omega (arith, c.shared_slice_known-1.given (row_places * c.args.f))
-
 pub returns : goal.returns
 returns c =
     let a = c.args in

@@ -26,11 +26,6 @@ returns-then-places-f c =
     let a = c.args in
     sym (table-end a.table.now a.f a.i c.if-i-ge-ROW_PLACES.false (omega arith))
 
-pub overflow_cast-result : goal.overflow_cast-result
-overflow_cast-result c =
-    let a = c.args in
-    omega (arith, c.shared_slice_known-1.given (row_places * a.f + a.i))
-
 pub returns-then-at-places : goal.returns-then-at-places
 returns-then-at-places c =
     let a = c.args in
