@@ -20,7 +20,7 @@ use Rattle.table.proofs.CountingLaws.{all_every_below, every_below_all}
 use Rattle.table.proofs.JoinLaws.{keeps_for_outside}
 use Rattle.table.proofs.Strides.{session_places_rows}
 use Rattle.table.specs.Answer.{Verdict, found, over, hopeless, Within, Keeps, First}
-use Rattle.table.specs.Repairs.{permitted, fact_of}
+use Rattle.table.specs.Repairs.{fact_of}
 use Rattle.table.specs.Sizes.{max_facts, max_row, session_places, unused}
 use Rattle.table.specs.Strips.{Cells, Courses}
 use Rattle.table.specs.Tasks.{cells_of, courses_of, KeepsFor, WellFormed}
