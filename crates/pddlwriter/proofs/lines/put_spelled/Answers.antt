@@ -7,6 +7,7 @@ use borrow.Author.Rules.{rules}
 use Rattle.pddlwords.specs.Spelling.{word_room}
 use Rattle.pddlwriter.proofs.lines.put_spelled.Goals as goal
 
+-- The array has all its places.
 pub slice_bounds-bytes-end : goal.slice_bounds-bytes-end
 slice_bounds-bytes-end c =
     let whole : length c.args.word.bytes ≡ word_room = search rules in

@@ -11,16 +11,20 @@ use Rattle.pddlwriter.proofs.texts.through_needs.Goals as goal
 pub put_spelled-next-requires : goal.put_spelled-next-requires
 unfolding through_needs
 put_spelled-next-requires c =
-    let both-fit : let a = c.args in a.at + (length (action_head a.action) + length (lines_of fact_line a.facts a.needs)) ≤ last_place = simp length-append at c.requires in
+    let a = c.args in
+    let both_fit : a.at + (length (action_head a.action) + length (lines_of fact_line a.facts a.needs)) ≤ last_place =
+    simp length-append at c.requires in
     let w = c.action_head.ensures in
-    (w.fits, omega (arith, w.len_is, both-fit))
+    (w.fits, omega (arith, w.len_is, both_fit))
 
 pub set_lines-requires : goal.set_lines-requires
 unfolding through_needs
 set_lines-requires c =
-    let both-fit : let a = c.args in a.at + (length (action_head a.action) + length (lines_of fact_line a.facts a.needs)) ≤ last_place = simp length-append at c.requires in
+    let a = c.args in
+    let both_fit : a.at + (length (action_head a.action) + length (lines_of fact_line a.facts a.needs)) ≤ last_place =
+    simp length-append at c.requires in
     let head = rw c.action_head.ensures.text at c.put_spelled-next.ensures in
-    omega (arith, head.next_is, both-fit)
+    omega (arith, head.next_is, both_fit)
 
 pub returns : goal.returns
 unfolding through_needs

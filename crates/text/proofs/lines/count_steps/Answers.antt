@@ -5,9 +5,14 @@ use borrow.Author.Rules.{rules}
 use lib.ListN.{length}
 use Rattle.table.specs.Counting.{sum_below}
 use Rattle.table.specs.Sizes.{max_runs, max_steps}
-use Rattle.table.specs.Tasks.{count_of}
+use Rattle.table.specs.Tasks.{count_of, WellFormed}
+use Rattle.table.specs.declared.Task.{Task}
 use Rattle.table.proofs.CountingLaws.{at_end, sum_below_le, sum_below_next}
 use Rattle.text.proofs.lines.count_steps.Goals as goal
+
+-- the run is one of the array's eight
+bounds : {t : Task} → WellFormed t → (t.runs.many ≤ max_runs) × (length t.runs.counts ≡ max_runs)
+bounds w = (w.many_high, w.shaped.counts)
 
 pub loop-i-init : goal.loop-i-init
 unfolding sum_below
@@ -15,19 +20,22 @@ loop-i-init c = search rules
 
 pub offset_bounds-counts-i : goal.offset_bounds-counts-i
 offset_bounds-counts-i c =
-    let bounds : (c.args.task.runs.many ≤ max_runs) × (length c.args.task.runs.counts ≡ max_runs) = let w = c.requires in (w.many_high, w.shaped.counts) in
-    omega (arith, bounds)
+    omega (arith, bounds c.requires)
 
 pub bounds-counts-i : goal.bounds-counts-i
 bounds-counts-i c =
-    let bounds : (c.args.task.runs.many ≤ max_runs) × (length c.args.task.runs.counts ≡ max_runs) = let w = c.requires in (w.many_high, w.shaped.counts) in
-    omega (arith, bounds)
+    omega (arith, bounds c.requires)
 
 pub overflow_add-steps : goal.overflow_add-steps
 overflow_add-steps c =
-    let bounds : (c.args.task.runs.many ≤ max_runs) × (length c.args.task.runs.counts ≡ max_runs) = let w = c.requires in (w.many_high, w.shaped.counts) in
     let w = c.requires in
-    omega (arith, bounds, c.loop-i.invariant, w.count_high c.loop-i.i, sum_below_le (count_of c.args.task.runs) c.loop-i.i max_steps (λ k below. w.count_high k))
+    omega (
+      arith,
+      bounds w,
+      c.loop-i.invariant,
+      w.count_high c.loop-i.i,
+      sum_below_le (count_of c.args.task.runs) c.loop-i.i max_steps (λ k below. w.count_high k),
+    )
 
 pub overflow_step-i : goal.overflow_step-i
 overflow_step-i c = omega arith

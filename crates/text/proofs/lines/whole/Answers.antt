@@ -17,21 +17,29 @@ refused_line-requires c =
 pub returns-then-read-ne-ACCEPTED : goal.returns-then-read-ne-ACCEPTED
 returns-then-read-ne-ACCEPTED c = refused_placed _ _ _ (omega arith) c.refused_line.ensures
 
+-- a task that was read is well formed
 pub first_lines-next-requires : goal.first_lines-next-requires
 first_lines-next-requires c =
-    let well : WellFormed c.args.read.task = c.requires.well_formed (omega arith) in
-    well
+    c.requires.well_formed (omega arith)
 
 pub refused_line-requires-then-solved-ne-ACCEPTED : goal.refused_line-requires-then-solved-ne-ACCEPTED
 refused_line-requires-then-solved-ne-ACCEPTED c =
     let well : WellFormed c.args.read.task = c.requires.well_formed (omega arith) in
     let a = c.args in
-    omega (arith, c.first_lines-next.ensures.next_is, first_most a.read.task (check_in a.checks) (well).many_high, refused_most a.solved.number a.solved.place)
+    omega (
+      arith,
+      c.first_lines-next.ensures.next_is,
+      first_most a.read.task (check_in a.checks) well.many_high,
+      refused_most a.solved.number a.solved.place,
+    )
 
 pub returns-then-solved-ne-ACCEPTED : goal.returns-then-solved-ne-ACCEPTED
 returns-then-solved-ne-ACCEPTED c =
     let a = c.args in
-    unsolved_placed a.read (check_in a.checks) (record { reply = a.solved; room = a.list.now }) (omega arith) c.first_lines-next.ensures (omega arith) c.refused_line-then-solved-ne-ACCEPTED.ensures
+    unsolved_placed a.read (check_in a.checks) (record { reply = a.solved; room = a.list.now }) (omega arith)
+    c.first_lines-next.ensures
+    (omega arith)
+    c.refused_line-then-solved-ne-ACCEPTED.ensures
 
 pub slice_bounds-answer_lines-end : goal.slice_bounds-answer_lines-end
 slice_bounds-answer_lines-end c = sym (length-take-le _ _ (omega arith))
@@ -44,11 +52,14 @@ answer_lines-requires c =
     omega (
       arith,
       c.first_lines-next.ensures.next_is,
-      first_most a.read.task (check_in a.checks) (well).many_high,
+      first_most a.read.task (check_in a.checks) well.many_high,
       answer_most (take a.solved.length a.list.now) (omega arith),
     )
 
 pub returns : goal.returns
 returns c =
     let a = c.args in
-    solved_placed a.read (check_in a.checks) (record { reply = a.solved; room = a.list.now }) (omega arith) c.first_lines-next.ensures (omega arith) c.answer_lines.ensures
+    solved_placed a.read (check_in a.checks) (record { reply = a.solved; room = a.list.now }) (omega arith)
+    c.first_lines-next.ensures
+    (omega arith)
+    c.answer_lines.ensures
