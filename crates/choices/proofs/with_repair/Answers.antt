@@ -10,7 +10,8 @@ returns-then-kind-eq-DROP_DELETE c = rw (c.with_fact.ensures, with_repair, eq-eq
 
 pub returns-then-kind-eq-ADD_EFFECT : goal.returns-then-kind-eq-ADD_EFFECT
 unfolding with_repair
-returns-then-kind-eq-ADD_EFFECT c = rw (c.with_fact-then-kind-eq-ADD_EFFECT.ensures, with_repair, ne_eqb _ _ c.if-kind-eq-DROP_DELETE.false, eq-eqb _ _ c.if-kind-eq-ADD_EFFECT.true) refl
+returns-then-kind-eq-ADD_EFFECT c =
+    rw (c.with_fact-then-kind-eq-ADD_EFFECT.ensures, with_repair, ne_eqb _ _ c.if-kind-eq-DROP_DELETE.false, eq-eqb _ _ c.if-kind-eq-ADD_EFFECT.true) refl
 
 pub returns : goal.returns
 unfolding with_repair

@@ -1,37 +1,34 @@
-use mathlib.Core.Path.{sym, ap, ◌∙◌}
-use Prim.Native.Nat.{ℕ, ◌+◌, ◌*◌, ◌<◌, ◌≤◌}
+use mathlib.Core.Path.{◌≡◌, sym, ap, ◌∙◌}
+use Prim.Native.Nat.{ℕ, ◌+◌, ◌*◌, ◌≤◌}
 use native.Mathlib.Omega.{arith}
 use lib.ListN.{get_or}
 use Rattle.facts.specs.Sets.{has}
-use Rattle.table.specs.Sizes.{max_facts, max_actions, max_runs, max_steps}
-use Rattle.table.specs.Tasks.{cells_of, count_of, step_of, course_of}
+use Rattle.table.specs.Sizes.{max_facts}
+use Rattle.table.specs.Tasks.{cells_of, count_of, step_of, course_of, WellFormed}
+use Rattle.table.specs.declared.Task.{Task}
 use Rattle.table.proofs.Formation.{step_lt}
 use Rattle.runcheck.specs.OpenNeeds.{states_of}
 use Rattle.runcheck.specs.Tallies.{noted, stepped}
 use Rattle.runcheck.specs.declared.Tally.{Tally}
 use Rattle.runcheck.proofs.StateLaws.{state_first, state_next}
-use Rattle.runcheck.proofs.TallyLaws.{tally_start, tally_of_le, needs_next, goals_next}
+use Rattle.runcheck.proofs.TallyLaws.{tally_of, tally_start, tally_of_le, needs_next, goals_next}
 use Rattle.runcheck.proofs.tally_run.Goals as goal
 
+-- before step i: how large the total is
+total_low : (t : Task) (run i : ℕ) (tally : Tally) → WellFormed t → tally ≡ tally_of t run (states_of t run) i → tally.total ≤ i * max_facts
+total_low t run i tally w e = omega (arith, ap (λ (s : Tally). s.total) e, tally_of_le t w run (states_of t run) i)
+
 pub bounds-runs-run : goal.bounds-runs-run
-bounds-runs-run c =
-    let there : c.args.run < max_runs = omega (arith, c.requires.0.many_high) in
-    there
+bounds-runs-run c = omega (arith, c.requires.0.many_high)
 
 pub overflow_mul-first : goal.overflow_mul-first
-overflow_mul-first c =
-    let there : c.args.run < max_runs = omega (arith, c.requires.0.many_high) in
-    omega (arith, there)
+overflow_mul-first c = omega (arith, c.requires.0.many_high)
 
 pub offset_bounds-runs-run-2 : goal.offset_bounds-runs-run-2
-offset_bounds-runs-run-2 c =
-    let there : c.args.run < max_runs = omega (arith, c.requires.0.many_high) in
-    omega (arith, there)
+offset_bounds-runs-run-2 c = omega (arith, c.requires.0.many_high)
 
 pub bounds-runs-run-2 : goal.bounds-runs-run-2
-bounds-runs-run-2 c =
-    let there : c.args.run < max_runs = omega (arith, c.requires.0.many_high) in
-    omega (arith, there)
+bounds-runs-run-2 c = omega (arith, c.requires.0.many_high)
 
 pub loop-i-init : goal.loop-i-init
 loop-i-init c =
@@ -40,83 +37,52 @@ loop-i-init c =
     (omega arith, state_first t run, sym (tally_start (cells_of t.table) (course_of t.runs run) (states_of t run)))
 
 pub overflow_add-a : goal.overflow_add-a
-overflow_add-a c =
-    let there : c.args.run < max_runs = omega (arith, c.requires.0.many_high) in
-    let bounds : (c.args.run < max_runs) × (count_of c.args.t.runs c.args.run ≤ max_steps) × (c.loop-i.tally.total ≤ c.loop-i.i * max_facts) = let t = c.args.t in let run = c.args.run in let w = c.requires.0 in (there, w.count_high run, omega (arith, ap (λ (s : Tally). s.total) c.loop-i.invariant.2, tally_of_le t w run (states_of t run) c.loop-i.i)) in
-    omega (arith, bounds)
+overflow_add-a c = omega (arith, c.requires.0.many_high, c.requires.0.count_high c.args.run)
 
 pub bounds-runs-first : goal.bounds-runs-first
-bounds-runs-first c =
-    let there : c.args.run < max_runs = omega (arith, c.requires.0.many_high) in
-    let bounds : (c.args.run < max_runs) × (count_of c.args.t.runs c.args.run ≤ max_steps) × (c.loop-i.tally.total ≤ c.loop-i.i * max_facts) = let t = c.args.t in let run = c.args.run in let w = c.requires.0 in (there, w.count_high run, omega (arith, ap (λ (s : Tally). s.total) c.loop-i.invariant.2, tally_of_le t w run (states_of t run) c.loop-i.i)) in
-    omega (arith, bounds)
+bounds-runs-first c = omega (arith, c.requires.0.many_high, c.requires.0.count_high c.args.run)
 
 pub overflow_cast-a : goal.overflow_cast-a
 overflow_cast-a c =
-    let there : c.args.run < max_runs = omega (arith, c.requires.0.many_high) in
-    let bounds : (c.args.run < max_runs) × (count_of c.args.t.runs c.args.run ≤ max_steps) × (c.loop-i.tally.total ≤ c.loop-i.i * max_facts) = let t = c.args.t in let run = c.args.run in let w = c.requires.0 in (there, w.count_high run, omega (arith, ap (λ (s : Tally). s.total) c.loop-i.invariant.2, tally_of_le t w run (states_of t run) c.loop-i.i)) in
-    let step : step_of c.args.t.runs c.args.run c.loop-i.i < max_actions = step_lt c.args.t c.requires.0 c.args.run c.loop-i.i (omega (arith, bounds)) in
-    omega (arith, step)
+    omega (arith, step_lt c.args.t c.requires.0 c.args.run c.loop-i.i (omega (arith, c.requires.0.count_high c.args.run)))
 
 pub offset_bounds-needs-a : goal.offset_bounds-needs-a
 offset_bounds-needs-a c =
-    let there : c.args.run < max_runs = omega (arith, c.requires.0.many_high) in
-    let bounds : (c.args.run < max_runs) × (count_of c.args.t.runs c.args.run ≤ max_steps) × (c.loop-i.tally.total ≤ c.loop-i.i * max_facts) = let t = c.args.t in let run = c.args.run in let w = c.requires.0 in (there, w.count_high run, omega (arith, ap (λ (s : Tally). s.total) c.loop-i.invariant.2, tally_of_le t w run (states_of t run) c.loop-i.i)) in
-    let step : step_of c.args.t.runs c.args.run c.loop-i.i < max_actions = step_lt c.args.t c.requires.0 c.args.run c.loop-i.i (omega (arith, bounds)) in
-    omega (arith, step)
+    omega (arith, step_lt c.args.t c.requires.0 c.args.run c.loop-i.i (omega (arith, c.requires.0.count_high c.args.run)))
 
 pub bounds-needs-a : goal.bounds-needs-a
 bounds-needs-a c =
-    let there : c.args.run < max_runs = omega (arith, c.requires.0.many_high) in
-    let bounds : (c.args.run < max_runs) × (count_of c.args.t.runs c.args.run ≤ max_steps) × (c.loop-i.tally.total ≤ c.loop-i.i * max_facts) = let t = c.args.t in let run = c.args.run in let w = c.requires.0 in (there, w.count_high run, omega (arith, ap (λ (s : Tally). s.total) c.loop-i.invariant.2, tally_of_le t w run (states_of t run) c.loop-i.i)) in
-    let step : step_of c.args.t.runs c.args.run c.loop-i.i < max_actions = step_lt c.args.t c.requires.0 c.args.run c.loop-i.i (omega (arith, bounds)) in
-    step
+    step_lt c.args.t c.requires.0 c.args.run c.loop-i.i (omega (arith, c.requires.0.count_high c.args.run))
 
 pub overflow_add-i : goal.overflow_add-i
-overflow_add-i c =
-    let there : c.args.run < max_runs = omega (arith, c.requires.0.many_high) in
-    let bounds : (c.args.run < max_runs) × (count_of c.args.t.runs c.args.run ≤ max_steps) × (c.loop-i.tally.total ≤ c.loop-i.i * max_facts) = let t = c.args.t in let run = c.args.run in let w = c.requires.0 in (there, w.count_high run, omega (arith, ap (λ (s : Tally). s.total) c.loop-i.invariant.2, tally_of_le t w run (states_of t run) c.loop-i.i)) in
-    omega (arith, bounds)
+overflow_add-i c = omega (arith, c.requires.0.many_high, c.requires.0.count_high c.args.run)
 
 pub note-tally-requires : goal.note-tally-requires
 note-tally-requires c =
-    let there : c.args.run < max_runs = omega (arith, c.requires.0.many_high) in
-    let bounds : (c.args.run < max_runs) × (count_of c.args.t.runs c.args.run ≤ max_steps) × (c.loop-i.tally.total ≤ c.loop-i.i * max_facts) = let t = c.args.t in let run = c.args.run in let w = c.requires.0 in (there, w.count_high run, omega (arith, ap (λ (s : Tally). s.total) c.loop-i.invariant.2, tally_of_le t w run (states_of t run) c.loop-i.i)) in
-    omega (arith, bounds)
+    omega (
+      arith,
+      c.requires.0.count_high c.args.run,
+      total_low c.args.t c.args.run c.loop-i.i c.loop-i.tally c.requires.0 c.loop-i.invariant.2,
+    )
 
 pub offset_bounds-adds-a : goal.offset_bounds-adds-a
 offset_bounds-adds-a c =
-    let there : c.args.run < max_runs = omega (arith, c.requires.0.many_high) in
-    let bounds : (c.args.run < max_runs) × (count_of c.args.t.runs c.args.run ≤ max_steps) × (c.loop-i.tally.total ≤ c.loop-i.i * max_facts) = let t = c.args.t in let run = c.args.run in let w = c.requires.0 in (there, w.count_high run, omega (arith, ap (λ (s : Tally). s.total) c.loop-i.invariant.2, tally_of_le t w run (states_of t run) c.loop-i.i)) in
-    let step : step_of c.args.t.runs c.args.run c.loop-i.i < max_actions = step_lt c.args.t c.requires.0 c.args.run c.loop-i.i (omega (arith, bounds)) in
-    omega (arith, step)
+    omega (arith, step_lt c.args.t c.requires.0 c.args.run c.loop-i.i (omega (arith, c.requires.0.count_high c.args.run)))
 
 pub bounds-adds-a : goal.bounds-adds-a
 bounds-adds-a c =
-    let there : c.args.run < max_runs = omega (arith, c.requires.0.many_high) in
-    let bounds : (c.args.run < max_runs) × (count_of c.args.t.runs c.args.run ≤ max_steps) × (c.loop-i.tally.total ≤ c.loop-i.i * max_facts) = let t = c.args.t in let run = c.args.run in let w = c.requires.0 in (there, w.count_high run, omega (arith, ap (λ (s : Tally). s.total) c.loop-i.invariant.2, tally_of_le t w run (states_of t run) c.loop-i.i)) in
-    let step : step_of c.args.t.runs c.args.run c.loop-i.i < max_actions = step_lt c.args.t c.requires.0 c.args.run c.loop-i.i (omega (arith, bounds)) in
-    step
+    step_lt c.args.t c.requires.0 c.args.run c.loop-i.i (omega (arith, c.requires.0.count_high c.args.run))
 
 pub offset_bounds-deletes-a : goal.offset_bounds-deletes-a
 offset_bounds-deletes-a c =
-    let there : c.args.run < max_runs = omega (arith, c.requires.0.many_high) in
-    let bounds : (c.args.run < max_runs) × (count_of c.args.t.runs c.args.run ≤ max_steps) × (c.loop-i.tally.total ≤ c.loop-i.i * max_facts) = let t = c.args.t in let run = c.args.run in let w = c.requires.0 in (there, w.count_high run, omega (arith, ap (λ (s : Tally). s.total) c.loop-i.invariant.2, tally_of_le t w run (states_of t run) c.loop-i.i)) in
-    let step : step_of c.args.t.runs c.args.run c.loop-i.i < max_actions = step_lt c.args.t c.requires.0 c.args.run c.loop-i.i (omega (arith, bounds)) in
-    omega (arith, step)
+    omega (arith, step_lt c.args.t c.requires.0 c.args.run c.loop-i.i (omega (arith, c.requires.0.count_high c.args.run)))
 
 pub bounds-deletes-a : goal.bounds-deletes-a
 bounds-deletes-a c =
-    let there : c.args.run < max_runs = omega (arith, c.requires.0.many_high) in
-    let bounds : (c.args.run < max_runs) × (count_of c.args.t.runs c.args.run ≤ max_steps) × (c.loop-i.tally.total ≤ c.loop-i.i * max_facts) = let t = c.args.t in let run = c.args.run in let w = c.requires.0 in (there, w.count_high run, omega (arith, ap (λ (s : Tally). s.total) c.loop-i.invariant.2, tally_of_le t w run (states_of t run) c.loop-i.i)) in
-    let step : step_of c.args.t.runs c.args.run c.loop-i.i < max_actions = step_lt c.args.t c.requires.0 c.args.run c.loop-i.i (omega (arith, bounds)) in
-    step
+    step_lt c.args.t c.requires.0 c.args.run c.loop-i.i (omega (arith, c.requires.0.count_high c.args.run))
 
 pub overflow_step-i : goal.overflow_step-i
-overflow_step-i c =
-    let there : c.args.run < max_runs = omega (arith, c.requires.0.many_high) in
-    let bounds : (c.args.run < max_runs) × (count_of c.args.t.runs c.args.run ≤ max_steps) × (c.loop-i.tally.total ≤ c.loop-i.i * max_facts) = let t = c.args.t in let run = c.args.run in let w = c.requires.0 in (there, w.count_high run, omega (arith, ap (λ (s : Tally). s.total) c.loop-i.invariant.2, tally_of_le t w run (states_of t run) c.loop-i.i)) in
-    omega (arith, bounds)
+overflow_step-i c = omega (arith, c.requires.0.many_high, c.requires.0.count_high c.args.run)
 
 pub loop-i-smaller : goal.loop-i-smaller
 loop-i-smaller c = omega arith
@@ -137,26 +103,21 @@ loop-i-preserved c =
     )
 
 pub offset_bounds-goals-run : goal.offset_bounds-goals-run
-offset_bounds-goals-run c =
-    let there : c.args.run < max_runs = omega (arith, c.requires.0.many_high) in
-    omega (arith, there)
+offset_bounds-goals-run c = omega (arith, c.requires.0.many_high)
 
 pub bounds-goals-run : goal.bounds-goals-run
-bounds-goals-run c =
-    let there : c.args.run < max_runs = omega (arith, c.requires.0.many_high) in
-    there
+bounds-goals-run c = omega (arith, c.requires.0.many_high)
 
 pub overflow_add-count : goal.overflow_add-count
-overflow_add-count c =
-    let there : c.args.run < max_runs = omega (arith, c.requires.0.many_high) in
-    let bounds : (c.args.run < max_runs) × (count_of c.args.t.runs c.args.run ≤ max_steps) × (c.loop-i.tally.total ≤ c.loop-i.i * max_facts) = let t = c.args.t in let run = c.args.run in let w = c.requires.0 in (there, w.count_high run, omega (arith, ap (λ (s : Tally). s.total) c.loop-i.invariant.2, tally_of_le t w run (states_of t run) c.loop-i.i)) in
-    omega (arith, bounds)
+overflow_add-count c = omega (arith, c.requires.0.many_high, c.requires.0.count_high c.args.run)
 
 pub note-requires : goal.note-requires
 note-requires c =
-    let there : c.args.run < max_runs = omega (arith, c.requires.0.many_high) in
-    let bounds : (c.args.run < max_runs) × (count_of c.args.t.runs c.args.run ≤ max_steps) × (c.loop-i.tally.total ≤ c.loop-i.i * max_facts) = let t = c.args.t in let run = c.args.run in let w = c.requires.0 in (there, w.count_high run, omega (arith, ap (λ (s : Tally). s.total) c.loop-i.invariant.2, tally_of_le t w run (states_of t run) c.loop-i.i)) in
-    omega (arith, bounds)
+    omega (
+      arith,
+      c.requires.0.count_high c.args.run,
+      total_low c.args.t c.args.run c.loop-i.i c.loop-i.tally c.requires.0 c.loop-i.invariant.2,
+    )
 
 pub returns : goal.returns
 returns c =
