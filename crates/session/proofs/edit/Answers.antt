@@ -22,49 +22,58 @@ returns-then-not-is_formed c =
 
 pub returns-then-table-ne-SESSION_PLACES : goal.returns-then-table-ne-SESSION_PLACES
 returns-then-table-ne-SESSION_PLACES c =
-    let well : WellFormed c.args.t = let shaped : Shaped c.args.t = search rules in told_formed c.args.t shaped c.is_formed.ensures (ap not c.if-not-is_formed.false) in
+    let shaped : Shaped c.args.t = search rules in
+    let well = told_formed c.args.t shaped c.is_formed.ensures (ap not c.if-not-is_formed.false) in
     let a = c.args in
     rw c.refuse_edit-then-table-ne-SESSION_PLACES.ensures
     (edits_refused a.t a.table.now a.e not_aSession (omega arith)
-    (edit_not_a_session a.t a.table.now a.e (well_formed a.t (well)) c.if-table-ne-SESSION_PLACES.true))
+    (edit_not_a_session a.t a.table.now a.e (well_formed a.t well) c.if-table-ne-SESSION_PLACES.true))
 
 pub returns-then-not-is_inside : goal.returns-then-not-is_inside
 returns-then-not-is_inside c =
-    let well : WellFormed c.args.t = let shaped : Shaped c.args.t = search rules in told_formed c.args.t shaped c.is_formed.ensures (ap not c.if-not-is_formed.false) in
+    let shaped : Shaped c.args.t = search rules in
+    let well = told_formed c.args.t shaped c.is_formed.ensures (ap not c.if-not-is_formed.false) in
     let inside = c.is_inside in
     let a = c.args in
     rw c.refuse_edit-then-not-is_inside.ensures
     (edits_refused a.t a.table.now a.e not_there (omega arith)
-    (edit_outside a.t a.table.now a.e (well_formed a.t (well)) c.if-table-ne-SESSION_PLACES.false
+    (edit_outside a.t a.table.now a.e (well_formed a.t well) c.if-table-ne-SESSION_PLACES.false
     (sym inside.ensures ∙ c.if-not-is_inside.true)))
 
 pub returns-then-leaves_lock : goal.returns-then-leaves_lock
 returns-then-leaves_lock c =
-    let well : WellFormed c.args.t = let shaped : Shaped c.args.t = search rules in told_formed c.args.t shaped c.is_formed.ensures (ap not c.if-not-is_formed.false) in
-    let inside : let a = c.args in cell_inside a.t a.e.cell ≡ true = sym c.is_inside.ensures ∙ c.if-not-is_inside.false in
+    let shaped : Shaped c.args.t = search rules in
+    let well = told_formed c.args.t shaped c.is_formed.ensures (ap not c.if-not-is_formed.false) in
+    let inside : cell_inside c.args.t c.args.e.cell ≡ true = sym c.is_inside.ensures ∙ c.if-not-is_inside.false in
     let left = c.leaves_lock in
     let a = c.args in
     rw c.refuse_edit-then-leaves_lock.ensures
     (edits_refused a.t a.table.now a.e lock_without_need (omega arith)
-    (edit_locked a.t a.table.now a.e (well_formed a.t (well)) c.if-table-ne-SESSION_PLACES.false (inside) (sym left.ensures ∙ c.if-leaves_lock.true)))
+    (edit_locked a.t a.table.now a.e (well_formed a.t well) c.if-table-ne-SESSION_PLACES.false inside (sym left.ensures ∙ c.if-leaves_lock.true)))
 
 pub put_row-requires : goal.put_row-requires
 put_row-requires c =
-    let well : WellFormed c.args.t = let shaped : Shaped c.args.t = search rules in told_formed c.args.t shaped c.is_formed.ensures (ap not c.if-not-is_formed.false) in
-    let inside : let a = c.args in cell_inside a.t a.e.cell ≡ true = sym c.is_inside.ensures ∙ c.if-not-is_inside.false in
-    let made : let a = c.args in accepts a.t a.e ≡ true = let a = c.args in and_both (cell_inside a.t a.e.cell) (not (leaves_lock a.t a.e)) (inside) (ap not (sym c.leaves_lock.ensures ∙ c.if-leaves_lock.false)) in
+    let shaped : Shaped c.args.t = search rules in
+    let well = told_formed c.args.t shaped c.is_formed.ensures (ap not c.if-not-is_formed.false) in
+    let inside : cell_inside c.args.t c.args.e.cell ≡ true = sym c.is_inside.ensures ∙ c.if-not-is_inside.false in
+    let made : accepts c.args.t c.args.e ≡ true =
+    and_both (cell_inside c.args.t c.args.e.cell) (not (leaves_lock c.args.t c.args.e)) inside
+    (ap not (sym c.leaves_lock.ensures ∙ c.if-leaves_lock.false)) in
     let a = c.args in record {
       well_formed = subst WellFormed (sym c.set_cell-task.ensures)
-          (edited_well a.t a.e (edited a.t a.e) (edited_exactly a.t a.e (well) (inside)) (well) (made));
-      f_lt_facts = edited_low a.t a.e (well) (inside) c.set_cell-task.ensures c.cell_fact-fact.ensures;
+          (edited_well a.t a.e (edited a.t a.e) (edited_exactly a.t a.e well inside) well made);
+      f_lt_facts = edited_low a.t a.e well inside c.set_cell-task.ensures c.cell_fact-fact.ensures;
       all_rows_in_bounds = omega (arith, c.if-table-ne-SESSION_PLACES.false, session_places_rows);
     }
 
 pub returns : goal.returns
 returns c =
-    let well : WellFormed c.args.t = let shaped : Shaped c.args.t = search rules in told_formed c.args.t shaped c.is_formed.ensures (ap not c.if-not-is_formed.false) in
-    let inside : let a = c.args in cell_inside a.t a.e.cell ≡ true = sym c.is_inside.ensures ∙ c.if-not-is_inside.false in
-    let made : let a = c.args in accepts a.t a.e ≡ true = let a = c.args in and_both (cell_inside a.t a.e.cell) (not (leaves_lock a.t a.e)) (inside) (ap not (sym c.leaves_lock.ensures ∙ c.if-leaves_lock.false)) in
+    let shaped : Shaped c.args.t = search rules in
+    let well = told_formed c.args.t shaped c.is_formed.ensures (ap not c.if-not-is_formed.false) in
+    let inside : cell_inside c.args.t c.args.e.cell ≡ true = sym c.is_inside.ensures ∙ c.if-not-is_inside.false in
+    let made : accepts c.args.t c.args.e ≡ true =
+    and_both (cell_inside c.args.t c.args.e.cell) (not (leaves_lock c.args.t c.args.e)) inside
+    (ap not (sym c.leaves_lock.ensures ∙ c.if-leaves_lock.false)) in
     let a = c.args in
-    edits_done a.t a.table.now a.e (well) c.if-table-ne-SESSION_PLACES.false (made) c.set_cell-task.ensures
+    edits_done a.t a.table.now a.e well c.if-table-ne-SESSION_PLACES.false made c.set_cell-task.ensures
     c.cell_fact-fact.ensures c.put_row.ensures

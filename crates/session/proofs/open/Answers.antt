@@ -6,7 +6,7 @@ use native.Mathlib.Omega.{arith}
 use Rattle.table.proofs.Formation.{told_formed, told_unformed, well_formed}
 use Rattle.table.proofs.Strides.{session_places_rows}
 use Rattle.table.specs.Refusals.{not_well_formed, not_aSession}
-use Rattle.table.specs.Tasks.{Shaped, WellFormed}
+use Rattle.table.specs.Tasks.{Shaped}
 use Rattle.rows.proofs.TableLaws.{emptied_filled}
 use Rattle.session.proofs.CallLaws.{open_malformed, open_not_a_session, opens_refused, opens_opened}
 use Rattle.session.proofs.open.Goals as goal
@@ -20,18 +20,20 @@ returns-then-not-is_formed c =
 
 pub returns-then-table-ne-SESSION_PLACES : goal.returns-then-table-ne-SESSION_PLACES
 returns-then-table-ne-SESSION_PLACES c =
-    let well : WellFormed c.args.t = let shaped : Shaped c.args.t = search rules in told_formed c.args.t shaped c.is_formed.ensures (ap not c.if-not-is_formed.false) in
+    let shaped : Shaped c.args.t = search rules in
+    let well = told_formed c.args.t shaped c.is_formed.ensures (ap not c.if-not-is_formed.false) in
     let a = c.args in
     rw c.refusal-then-table-ne-SESSION_PLACES.ensures
     (opens_refused a.t a.table.now not_aSession (omega arith)
-    (open_not_a_session a.t a.table.now (well_formed a.t (well)) c.if-table-ne-SESSION_PLACES.true))
+    (open_not_a_session a.t a.table.now (well_formed a.t well) c.if-table-ne-SESSION_PLACES.true))
 
 pub empty_rows-requires : goal.empty_rows-requires
 empty_rows-requires c = omega (arith, c.if-table-ne-SESSION_PLACES.false, session_places_rows)
 
 pub fill-requires : goal.fill-requires
 fill-requires c =
-    let well : WellFormed c.args.t = let shaped : Shaped c.args.t = search rules in told_formed c.args.t shaped c.is_formed.ensures (ap not c.if-not-is_formed.false) in
+    let shaped : Shaped c.args.t = search rules in
+    let well = told_formed c.args.t shaped c.is_formed.ensures (ap not c.if-not-is_formed.false) in
     let empty = c.empty_rows.ensures in
     record {
       well_formed = well;
@@ -41,6 +43,8 @@ fill-requires c =
 
 pub returns : goal.returns
 returns c =
-    let well : WellFormed c.args.t = let shaped : Shaped c.args.t = search rules in told_formed c.args.t shaped c.is_formed.ensures (ap not c.if-not-is_formed.false) in
+    let shaped : Shaped c.args.t = search rules in
+    let well = told_formed c.args.t shaped c.is_formed.ensures (ap not c.if-not-is_formed.false) in
     let a = c.args in
-    opens_opened a.t a.table.now (well_formed a.t (well)) c.if-table-ne-SESSION_PLACES.false _ (emptied_filled a.t a.table.now c.empty_rows.new.table _ c.empty_rows.ensures c.fill.ensures)
+    opens_opened a.t a.table.now (well_formed a.t well) c.if-table-ne-SESSION_PLACES.false _
+    (emptied_filled a.t a.table.now c.empty_rows.new.table _ c.empty_rows.ensures c.fill.ensures)

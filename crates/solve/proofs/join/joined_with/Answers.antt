@@ -10,7 +10,9 @@ use Rattle.solve.proofs.join.joined_with.Goals as goal
 
 pub overflow_add-total : goal.overflow_add-total
 overflow_add-total c =
-    let low : c.announced-count.result ≤ max_row = let seven : length c.args.row ≡ row_places = search rules in count_low c.args.joined c.args.row seven c.requires.row_bound c.announced-count.result c.announced-count.ensures in
+    let seven : length c.args.row ≡ row_places = search rules in
+    let low : c.announced-count.result ≤ max_row =
+    count_low c.args.joined c.args.row seven c.requires.row_bound c.announced-count.result c.announced-count.ensures in
     omega (arith, low, c.requires.total_le_all_rows)
 
 pub returns-then-total-gt-LIMIT : goal.returns-then-total-gt-LIMIT
@@ -20,8 +22,9 @@ returns-then-total-gt-LIMIT c =
 
 pub copy-requires : goal.copy-requires
 copy-requires c =
-    let low : c.announced-count.result ≤ max_row = let seven : length c.args.row ≡ row_places = search rules in count_low c.args.joined c.args.row seven c.requires.row_bound c.announced-count.result c.announced-count.ensures in
     let seven : length c.args.row ≡ row_places = search rules in
+    let low : c.announced-count.result ≤ max_row =
+    count_low c.args.joined c.args.row seven c.requires.row_bound c.announced-count.result c.announced-count.ensures in
     let six : length c.args.joined.list ≡ max_limit = search rules in
     record {
       count_in_bounds = omega (arith, low, seven);

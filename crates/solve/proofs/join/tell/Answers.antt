@@ -1,7 +1,7 @@
 -- `solve::join::tell` meets its contract. Assumes nothing.
 use mathlib.Core.List.{◌++◌}
 use mathlib.Core.Path.{◌≡◌, sym, ap}
-use Prim.Native.Nat.{ℕ, ◌≤◌}
+use Prim.Native.Nat.{ℕ}
 use borrow.Author.Rules.{rules}
 use native.Mathlib.Omega.{arith}
 use lib.ListN.{length, take, drop}
@@ -17,18 +17,23 @@ returns-then-reply-eq0 c =
 
 pub copy-requires : goal.copy-requires
 copy-requires c =
-    let given : let a = c.args in (c.answered-reply.result.length ≡ a.joined.total) × (a.joined.total ≤ a.limit) × (a.joined.total ≤ length a.room.now) = let a = c.args in reply_given a.joined.hopeless a.joined.over a.joined.total a.limit (length a.room.now) c.answered-reply.result c.answered-reply.ensures c.if-reply-eq0.false in
+    let a = c.args in
+    let given =
+    reply_given a.joined.hopeless a.joined.over a.joined.total a.limit (length a.room.now) c.answered-reply.result
+    c.answered-reply.ensures c.if-reply-eq0.false in
     let six : length c.args.joined.list ≡ max_limit = search rules in
     record {
-      count_in_bounds = omega (arith, (given).1, c.requires, six);
-      count_in_bounds_2 = omega (arith, (given).2);
+      count_in_bounds = omega (arith, given.1, c.requires, six);
+      count_in_bounds_2 = omega (arith, given.2);
     }
 
 pub returns : goal.returns
 returns c =
-    let given : let a = c.args in (c.answered-reply.result.length ≡ a.joined.total) × (a.joined.total ≤ a.limit) × (a.joined.total ≤ length a.room.now) = let a = c.args in reply_given a.joined.hopeless a.joined.over a.joined.total a.limit (length a.room.now) c.answered-reply.result c.answered-reply.ensures c.if-reply-eq0.false in
-    let a = c.args in (
+    let a = c.args in
+    let given =
+    reply_given a.joined.hopeless a.joined.over a.joined.total a.limit (length a.room.now) c.answered-reply.result
+    c.answered-reply.ensures c.if-reply-eq0.false in (
       c.answered-reply.ensures,
       first_pasted a.room.now a.joined.list c.copy.new.to a.joined.total c.answered-reply.result.length
-          c.copy.ensures (given).0,
+          c.copy.ensures given.0,
     )

@@ -19,7 +19,8 @@ beyond_with-beyond-requires c = omega (arith, c.requires.facts_le_max_facts)
 
 pub overflow_add-total : goal.overflow_add-total
 overflow_add-total c =
-    let repairs-here : c.announced-total.result ≡ repairs_in (row_at c.args.table.now c.loop-f.f) = let first = c.first_at-first in announced_repairs _ first.result c.announced-total.result first.ensures c.announced-total.ensures in
+    let repairs-here : c.announced-total.result ≡ repairs_in (row_at c.args.table.now c.loop-f.f) =
+    announced_repairs _ c.first_at-first.result c.announced-total.result c.first_at-first.ensures c.announced-total.ensures in
     omega (arith, repairs-here, repairs_low (row_at c.args.table.now c.loop-f.f), c.loop-f.invariant.bound)
 
 pub overflow_step-f : goal.overflow_step-f
@@ -30,10 +31,11 @@ loop-f-smaller c = omega arith
 
 pub loop-f-preserved : goal.loop-f-preserved
 loop-f-preserved c =
-    let repairs-here : c.announced-total.result ≡ repairs_in (row_at c.args.table.now c.loop-f.f) = let first = c.first_at-first in announced_repairs _ first.result c.announced-total.result first.ensures c.announced-total.ensures in
+    let repairs-here : c.announced-total.result ≡ repairs_in (row_at c.args.table.now c.loop-f.f) =
+    announced_repairs _ c.first_at-first.result c.announced-total.result c.first_at-first.ensures c.announced-total.ensures in
     summed_more c.args.table.now c.args.facts c.requires.facts_le_max_facts c.requires.readable c.loop-f.hopeless c.loop-f.beyond c.loop-f.total
     c.loop-f.f c.first_at-first.result c.beyond_with-beyond.result c.announced-total.result (omega arith)
-    c.first_at-first.ensures c.beyond_with-beyond.ensures (repairs-here) c.loop-f.invariant
+    c.first_at-first.ensures c.beyond_with-beyond.ensures repairs-here c.loop-f.invariant
 
 pub returns : goal.returns
 returns c =

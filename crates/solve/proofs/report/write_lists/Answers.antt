@@ -24,8 +24,11 @@ overflow_add-f c = omega arith
 
 pub copy-requires : goal.copy-requires
 copy-requires c =
-    let repairs-here : c.announced-count.result ≡ repairs_in (row_at c.args.table.now c.loop-f.f) = let first = c.first_at in announced_repairs _ first.result c.announced-count.result first.ensures c.announced-count.ensures in
-    let next_fits : c.loop-f.at + repairs_in (row_at c.args.table.now c.loop-f.f) ≤ length c.loop-f.room = listed_fits c.args.table.now c.args.facts c.args.room.now c.requires.facts_le_max_facts c.requires.readable c.requires.facts_in_bounds c.loop-f.room c.loop-f.at c.loop-f.f (omega arith) c.loop-f.invariant in
+    let repairs-here : c.announced-count.result ≡ repairs_in (row_at c.args.table.now c.loop-f.f) =
+    announced_repairs _ c.first_at.result c.announced-count.result c.first_at.ensures c.announced-count.ensures in
+    let next_fits : c.loop-f.at + repairs_in (row_at c.args.table.now c.loop-f.f) ≤ length c.loop-f.room =
+    listed_fits c.args.table.now c.args.facts c.args.room.now c.requires.facts_le_max_facts c.requires.readable
+    c.requires.facts_in_bounds c.loop-f.room c.loop-f.at c.loop-f.f (omega arith) c.loop-f.invariant in
     record {
       count_in_bounds = omega (arith, repairs-here, repairs_low (row_at c.args.table.now c.loop-f.f), c.requires.readable.places);
       count_in_bounds_2 = omega (arith, repairs-here, next_fits);
@@ -33,8 +36,11 @@ copy-requires c =
 
 pub overflow_add-at : goal.overflow_add-at
 overflow_add-at c =
-    let repairs-here : c.announced-count.result ≡ repairs_in (row_at c.args.table.now c.loop-f.f) = let first = c.first_at in announced_repairs _ first.result c.announced-count.result first.ensures c.announced-count.ensures in
-    let next_fits : c.loop-f.at + repairs_in (row_at c.args.table.now c.loop-f.f) ≤ length c.loop-f.room = listed_fits c.args.table.now c.args.facts c.args.room.now c.requires.facts_le_max_facts c.requires.readable c.requires.facts_in_bounds c.loop-f.room c.loop-f.at c.loop-f.f (omega arith) c.loop-f.invariant in
+    let repairs-here : c.announced-count.result ≡ repairs_in (row_at c.args.table.now c.loop-f.f) =
+    announced_repairs _ c.first_at.result c.announced-count.result c.first_at.ensures c.announced-count.ensures in
+    let next_fits : c.loop-f.at + repairs_in (row_at c.args.table.now c.loop-f.f) ≤ length c.loop-f.room =
+    listed_fits c.args.table.now c.args.facts c.args.room.now c.requires.facts_le_max_facts c.requires.readable
+    c.requires.facts_in_bounds c.loop-f.room c.loop-f.at c.loop-f.f (omega arith) c.loop-f.invariant in
     omega (arith, repairs-here, next_fits, c.loop-f.invariant.places)
 
 pub overflow_step-f : goal.overflow_step-f
@@ -45,10 +51,11 @@ loop-f-smaller c = omega arith
 
 pub loop-f-preserved : goal.loop-f-preserved
 loop-f-preserved c =
-    let repairs-here : c.announced-count.result ≡ repairs_in (row_at c.args.table.now c.loop-f.f) = let first = c.first_at in announced_repairs _ first.result c.announced-count.result first.ensures c.announced-count.ensures in
+    let repairs-here : c.announced-count.result ≡ repairs_in (row_at c.args.table.now c.loop-f.f) =
+    announced_repairs _ c.first_at.result c.announced-count.result c.first_at.ensures c.announced-count.ensures in
     listed_more c.args.table.now c.args.facts c.args.room.now c.requires.facts_le_max_facts c.requires.readable c.requires.facts_in_bounds c.loop-f.room
     c.copy.new.to c.loop-f.at c.loop-f.f c.announced-count.result
-    (omega arith) (repairs-here) c.copy.ensures c.loop-f.invariant
+    (omega arith) repairs-here c.copy.ensures c.loop-f.invariant
 
 pub shape_of-room : goal.shape_of-room
 shape_of-room c = c.loop-f.invariant.places
