@@ -4,7 +4,8 @@
 It goes by text, once, over what port.py left: `firstWrong` and `edit-outside` become `first_wrong` and `edit_outside` where a file of
 specs/ or a file of laws in proofs/ declares them; types and modules keep their capitals, and functions of src/, exported names,
 strings, inputs and outputs are not touched. In comments and pages a name with a dash turns only in a code span, since prose has such
-words too. It stops where two names of one file would fall together, and writes nothing then.
+words too. A lemma that would have a definition's name in some file gets `_lem`. Where two names of one file fall together all the same (a
+function's and its definition's, or a field's), it says so, for a look.
 """
 import pathlib
 import re
@@ -25,7 +26,7 @@ LIBRARY = {"getD": "get_or"}
 def snake(name):
     for old, new in LIBRARY.items():
         name = re.sub(rf"(?<![A-Za-z]){old}(?![a-z])", new, name)
-    name = re.sub(r"(?<=[a-z0-9])[A-Z]", lambda m: "_" + m[0].lower(), name)
+    name = re.sub(r"(?<=[a-z0-9])[A-Z]|(?<=[A-Z])[A-Z](?=[a-z])", lambda m: "_" + m[0].lower(), name)
     return name.replace("-", "_")
 
 

@@ -14,7 +14,7 @@ use Rattle.table.proofs.CountingLaws.{FirstAt, first_where_at, first_where_same}
 use Rattle.table.proofs.FlagLaws.{or_cases, or_left, or_right, or_neither, and_both, both, is_false, by_order}
 use Rattle.table.proofs.Formation.{well_formed}
 use Rattle.table.proofs.JoinLaws.{permitted_none}
-use Rattle.table.proofs.RepairLaws.{permitted_repaired, repaired_none, repaired_again}
+use Rattle.table.proofs.RepairLaws.{permitted_repaired, repaired_nothing, repaired_again}
 use Rattle.table.specs.Answer.{Permitted, Works, First}
 use Rattle.table.specs.Order.{is_in}
 use Rattle.table.specs.Refusals.{accepted, list_not_permitted}
@@ -129,7 +129,7 @@ module _ (c : Cells) (a : List ℕ) where
 
 -- the task with the empty list applied is the task
 pub applied_none : (t : Task) → Shaped t → AppliedTo t [] t
-applied_none t s = cells_applied t [] t s refl refl (sym (repaired_none (cells_of t.table)))
+applied_none t s = cells_applied t [] t s refl refl (sym (repaired_nothing (cells_of t.table)))
 
 module _ (t : Task) (a : List ℕ) (u : Task) (made : AppliedTo t a u) where
   pub applied_twice : (b : List ℕ) (v : Task) → AppliedTo u b v → AppliedTo t (merged a b) v

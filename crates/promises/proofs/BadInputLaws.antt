@@ -34,7 +34,7 @@ use Rattle.table.proofs.RefusalLaws.{first_of_in}
 use Rattle.table.specs.Answer.{Verdict, found, over, hopeless, Permitted}
 use Rattle.table.specs.Join.{join_verdicts}
 use Rattle.table.specs.Outcomes.{Outcome, refusal, refused, given}
-use Rattle.table.specs.Refusals.{accepted, bytes_after_end, not_well_formed, not_aSession, not_there, list_not_permitted, too_many_runs, lock_without_need}
+use Rattle.table.specs.Refusals.{accepted, bytes_after_end, not_well_formed, not_a_session, not_there, list_not_permitted, too_many_runs, lock_without_need}
 use Rattle.table.specs.Tasks.{cells_of, course_of, formed, WellFormed}
 use Rattle.table.specs.declared.Reply.{Reply}
 use Rattle.table.specs.declared.Task.{Task}
@@ -204,10 +204,10 @@ pub list_fair : (t : Task) (s room : List ℕ) (o : Outcome) → o ≡ listed t 
 unfolding listed
 list_fair t s room o e =
     let v = join_verdicts (λ f. verdict_in (row_at s f)) t.table.facts t.table.limit in
-    let rest = cond {A = Outcome} (not (in_form t s)) (refused not_aSession room) (told v room) in
+    let rest = cond {A = Outcome} (not (in_form t s)) (refused not_a_session room) (told v room) in
     subst (Fair room) (sym e)
     (either (Fair room) (not (formed t)) (refused not_well_formed room) rest (refused_fair 12 room (omega arith))
-    (either (Fair room) (not (in_form t s)) (refused not_aSession room) (told v room) (refused_fair 13 room (omega arith)) (told_fair v room)))
+    (either (Fair room) (not (in_form t s)) (refused not_a_session room) (told v room) (refused_fair 13 room (omega arith)) (told_fair v room)))
 
 pub listing_fair : (input room : List ℕ) (o : Outcome) → ListsInto input room o → Fair room o
 listing_fair input room o a = subst (Fair room) (sym a.outcome) (given_fair a.text room)

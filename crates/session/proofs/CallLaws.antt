@@ -21,7 +21,7 @@ use Rattle.table.proofs.FlagLaws.{both, and_both, and_left, and_right}
 use Rattle.table.proofs.Formation.{well_formed}
 use Rattle.table.proofs.RefusalLaws.{silent}
 use Rattle.table.proofs.ReplyLaws.{one_answer}
-use Rattle.table.specs.Refusals.{Refusal, first_of, refuse, none, accepted, not_well_formed, not_aSession, not_there, lock_without_need}
+use Rattle.table.specs.Refusals.{Refusal, first_of, refuse, none, accepted, not_well_formed, not_a_session, not_there, lock_without_need}
 use Rattle.table.specs.Join.{join_verdicts}
 use Rattle.table.specs.Sizes.{session_places}
 use Rattle.table.specs.Tasks.{WellFormed, formed}
@@ -42,7 +42,7 @@ module _ (t : Task) (s : List ℕ) where
   unfolding open_refusal first_of
   open_malformed h = rw h
 
-  pub open_not_a_session : formed t ≡ true → (length s ≡ session_places → ⊥) → open_refusal t s ≡ at_zero not_aSession
+  pub open_not_a_session : formed t ≡ true → (length s ≡ session_places → ⊥) → open_refusal t s ≡ at_zero not_a_session
   unfolding open_refusal first_of
   open_not_a_session h n = rw (h, ne_eqb (length s) session_places n)
 
@@ -55,7 +55,7 @@ module _ (t : Task) (s : List ℕ) where
     unfolding edit_refusal first_of
     edit_malformed h = rw h
 
-    pub edit_not_a_session : formed t ≡ true → (length s ≡ session_places → ⊥) → edit_refusal t s e ≡ at_zero not_aSession
+    pub edit_not_a_session : formed t ≡ true → (length s ≡ session_places → ⊥) → edit_refusal t s e ≡ at_zero not_a_session
     unfolding edit_refusal first_of
     edit_not_a_session h n = rw (h, ne_eqb (length s) session_places n)
 
@@ -79,7 +79,7 @@ module _ (t : Task) (s : List ℕ) where
     unfolding edit_refusal
     edit_accepted h =
         let p = silent
-        (refuse (not (formed t)) not_well_formed ∷ refuse (not (eqb (length s) session_places)) not_aSession ∷
+        (refuse (not (formed t)) not_well_formed ∷ refuse (not (eqb (length s) session_places)) not_a_session ∷
         refuse (not (cell_inside t e.cell)) not_there ∷ refuse (leaves_lock t e) lock_without_need ∷ []) (omega arith) h in (
           not-false (formed t) p.0,
           eqb-true (length s) session_places (not-false (eqb (length s) session_places) p.1.0),
@@ -148,7 +148,7 @@ module _ (t : Task) (s room : List ℕ) where
   unfolding listed
   listed_malformed h = rw h
 
-  pub listed_not_a_session : WellFormed t → in_form t s ≡ false → listed t s room ≡ refused not_aSession room
+  pub listed_not_a_session : WellFormed t → in_form t s ≡ false → listed t s room ≡ refused not_a_session room
   unfolding listed
   listed_not_a_session w h = rw (well_formed t w, h)
 

@@ -7,7 +7,7 @@ use Rattle.solve.specs.Solving.{told}
 use Rattle.table.specs.Outcomes.{Outcome, refused}
 use Rattle.rows.specs.Tables.{row_at, Stored, Rewritten}
 use Rattle.table.specs.Join.{join_verdicts}
-use Rattle.table.specs.Refusals.{Refusal, first_of, refuse, accepted, not_well_formed, not_aSession, not_there, lock_without_need}
+use Rattle.table.specs.Refusals.{Refusal, first_of, refuse, accepted, not_well_formed, not_a_session, not_there, lock_without_need}
 use Rattle.table.specs.Sizes.{session_places}
 use Rattle.table.specs.Tasks.{formed}
 use Rattle.table.specs.declared.Task.{Task}
@@ -17,7 +17,7 @@ use Rattle.session.specs.Sessions.{in_form}
 
 -- The refusals of opening, in order: "Opening gives 12 or 13 only."
 unfoldable pub open_refusal : Task → List ℕ → Refusal
-open_refusal t s = first_of (refuse (not (formed t)) not_well_formed ∷ refuse (not (eqb (length s) session_places)) not_aSession ∷ [])
+open_refusal t s = first_of (refuse (not (formed t)) not_well_formed ∷ refuse (not (eqb (length s) session_places)) not_a_session ∷ [])
 
 -- "Opening fills all rows"; a refusal writes nothing.
 pub record Opens (t : Task) (s : List ℕ) (r : Reply) (after : List ℕ) : Type 0 where
@@ -30,7 +30,7 @@ pub record Opens (t : Task) (s : List ℕ) (r : Reply) (after : List ℕ) : Type
 unfoldable pub edit_refusal : Task → List ℕ → Edit → Refusal
 edit_refusal t s e =
     first_of
-    (refuse (not (formed t)) not_well_formed ∷ refuse (not (eqb (length s) session_places)) not_aSession ∷
+    (refuse (not (formed t)) not_well_formed ∷ refuse (not (eqb (length s) session_places)) not_a_session ∷
     refuse (not (cell_inside t e.cell)) not_there ∷ refuse (leaves_lock t e) lock_without_need ∷ [])
 
 -- "It gives the edited task and writes the fact's row afresh; other rows are kept as found, right or not." A refused
@@ -46,7 +46,7 @@ pub record Edits (t : Task) (s : List ℕ) (e : Edit) (r : TaskReply) (after : L
 unfoldable pub listed : Task → List ℕ → List ℕ → Outcome
 listed t s room =
     cond {A = Outcome} (not (formed t)) (refused not_well_formed room)
-    (cond {A = Outcome} (not (in_form t s)) (refused not_aSession room)
+    (cond {A = Outcome} (not (in_form t s)) (refused not_a_session room)
     (told (join_verdicts (λ f. verdict_in (row_at s f)) t.table.facts t.table.limit) room))
 
 -- A story of edits: each step is any result that the edit's contract allows.

@@ -16,7 +16,7 @@ use Rattle.table.proofs.CountingLaws.{some_passes, none_passes, first_where_at}
 use Rattle.table.proofs.FlagLaws.{by_order}
 use Rattle.table.proofs.OrderLaws.{is_in_none, is_in_left, is_in_right, is_in_either, ascending_weaken, ≼_none, ≼_length, ≼_append, Split, split_at, split_left_in, split_right_in, split_either}
 use Rattle.table.proofs.RepairLaws.{repaired_none, right_of_part, right_of_whole}
-use Rattle.table.proofs.RunLaws.{valid_all_right, right_all_valid}
+use Rattle.table.proofs.RunLaws.{valid_all_right, right_all_valid, right_same, same_course_refl}
 use Rattle.table.proofs.Strides.{limit_within_row}
 use Rattle.table.specs.Answer.{Permitted, Works, Keeps, First, Verdict, found, over, Within}
 use Rattle.table.specs.Lists.{gather}
@@ -183,7 +183,10 @@ module _ (c : Cells) (rs : Courses) where
   }
 
   pub keeps_right : (f : ℕ) → AllRight c rs f → First (Keeps c rs f) []
-  keeps_right f right = keeps_nothing f (subst (λ (d : Cells). AllRight d rs f) (sym (repaired_none c)) right)
+  keeps_right f right =
+      keeps_nothing f (λ i h.
+      let r = rs.course i in
+      right_same f r r c (repaired c (is_in [])) (repaired_none c r f) (same_course_refl f r) (right i h))
 
   pub keeps_outside : Inside c rs → (f : ℕ) → c.facts ≤ f → First (Keeps c rs f) []
   keeps_outside inside f h = keeps_nothing f (right_outside inside f h (is_in []))

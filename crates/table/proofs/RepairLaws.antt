@@ -2,7 +2,7 @@
 -- made one set after another are made at once.
 use mathlib.Core.Bool.{Bool, true, false, not, ◌&&◌, ◌||◌, and-true, and-false, and_assoc, or-false, or_assoc, and-or_distrib_left}
 use mathlib.Core.List.{List, []}
-use mathlib.Core.Path.{◌≡◌, refl, sym, ap, ◌∙◌}
+use mathlib.Core.Path.{◌≡◌, refl, sym, ap, ◌∙◌, subst}
 use Prim.Native.Nat.{ℕ, ◌<◌}
 use native.Mathlib.Omega.{arith}
 use borrow.Author.Tests.{ltb-true, lt-ltb}
@@ -47,8 +47,8 @@ chosen_none : (f k a : ℕ) → chosen (is_in []) f k a ≡ false
 unfolding chosen is_in
 chosen_none f k a = and-false (ltb a max_actions)
 
-pub repaired_none : (c : Cells) → repaired c (is_in []) ≡ c
-repaired_none c = λ j. record {
+pub repaired_nothing : (c : Cells) → repaired c (is_in []) ≡ c
+repaired_nothing c = λ j. record {
   facts = c.facts;
   actions = c.actions;
   needs = λ a f. kept (c.needs a f) f drop_need a j;
@@ -59,6 +59,11 @@ repaired_none c = λ j. record {
   where
     kept : (b : Bool) (f k a : ℕ) → (b && not (chosen (is_in []) f k a)) ≡ b
     kept b f k a = ap (λ (x : Bool). b && not x) (chosen_none f k a) ∙ and-true b
+
+-- and so it is for one run and fact
+pub repaired_none : (c : Cells) (r : Course) (f : ℕ) → SameAt f r c (repaired c (is_in []))
+repaired_none c r f =
+    subst (SameAt f r c) (sym (repaired_nothing c)) (record { needs = λ i h. refl; adds = λ i h. refl; deletes = λ i h. refl })
 
 -- ---- working is monotone
 

@@ -42,8 +42,8 @@ room_too_short = 11
 abbrev pub not_well_formed : ℕ
 not_well_formed = 12
 
-abbrev pub not_aSession : ℕ
-not_aSession = 13
+abbrev pub not_a_session : ℕ
+not_a_session = 13
 
 -- An edit names a fact, an action or a run that isn't there, or a run check a run (02, request 1).
 abbrev pub not_there : ℕ

@@ -4,7 +4,7 @@ use Rattle.std.specs.Prelude.{Bool, true, false, List, [], ◌∷◌, map, ◌�
 use Rattle.table.specs.Answer.{First, found, over, hopeless, Within}
 use Rattle.table.specs.Bench.{task, second_run, locking, listing_task, goals_at_start, goal_out_of_reach, adds_and_deletes, deletes_the_goal, needs_last_fact}
 use Rattle.table.specs.Order.{◌≼◌}
-use Rattle.table.specs.Refusals.{accepted, no_end, unknown_kind, sizes_misplaced, size_outside, number_outside, not_ascending, too_many_steps, bytes_after_end, no_list_works, over_the_limit, room_too_short, not_well_formed, not_aSession, not_there, list_not_permitted, too_many_runs, lock_without_need}
+use Rattle.table.specs.Refusals.{accepted, no_end, unknown_kind, sizes_misplaced, size_outside, number_outside, not_ascending, too_many_steps, bytes_after_end, no_list_works, over_the_limit, room_too_short, not_well_formed, not_a_session, not_there, list_not_permitted, too_many_runs, lock_without_need}
 use Rattle.table.specs.Repairs.{drop_delete, add_effect, drop_need, number_of, permitted}
 use Rattle.table.specs.Sizes.{max_limit}
 use Rattle.table.specs.Tasks.{cells_of, formed, WorksFor}
@@ -37,7 +37,7 @@ pub record Worked : Type 0 where
   -- The names of Refusals are the rows of 01's table of refusals, 1 to 15, after success; and 02's.
   pub refusals :
       (accepted ∷ no_end ∷ unknown_kind ∷ sizes_misplaced ∷ size_outside ∷ number_outside ∷ not_ascending ∷ too_many_steps ∷ bytes_after_end ∷ no_list_works ∷
-      over_the_limit ∷ room_too_short ∷ not_well_formed ∷ not_aSession ∷ not_there ∷ list_not_permitted ∷ too_many_runs ∷ lock_without_need ∷ [])
+      over_the_limit ∷ room_too_short ∷ not_well_formed ∷ not_a_session ∷ not_there ∷ list_not_permitted ∷ too_many_runs ∷ lock_without_need ∷ [])
       ≡ (0 ∷ 1 ∷ 2 ∷ 3 ∷ 4 ∷ 5 ∷ 6 ∷ 7 ∷ 8 ∷ 9 ∷ 10 ∷ 11 ∷ 12 ∷ 13 ∷ 14 ∷ 15 ∷ 16 ∷ 18 ∷ [])
   -- "The number of a repair is 96f + 32k + a, from 0 to 6143": the numbers of rows 2 and 8, and the last
   pub numbers : (number_of 1 drop_delete 1 ≡ 97) × (number_of 2 add_effect 0 ≡ 224) × (number_of 63 drop_need 0 ≡ 6112) × (number_of 63 drop_need 31 ≡ 6143)

@@ -1,6 +1,6 @@
 // The refusal numbers of documents 01 and 02, by one name each; `numbers` shows that they are those of specs/Refusals.
 ghost use Rattle.std.specs.Prelude.{◌∷◌, [], ◌≡◌};
-ghost use Rattle.table.specs.Refusals.{accepted, no_end, unknown_kind, sizes_misplaced, size_outside, number_outside, not_ascending, too_many_steps, bytes_after_end, no_list_works, over_the_limit, room_too_short, not_well_formed, not_aSession, not_there, list_not_permitted, too_many_runs, lock_without_need};
+ghost use Rattle.table.specs.Refusals.{accepted, no_end, unknown_kind, sizes_misplaced, size_outside, number_outside, not_ascending, too_many_steps, bytes_after_end, no_list_works, over_the_limit, room_too_short, not_well_formed, not_a_session, not_there, list_not_permitted, too_many_runs, lock_without_need};
 
 pub const ACCEPTED: usize = 0;
 
@@ -43,7 +43,7 @@ pub const NUMBERS: usize = 18;
 
 // The code's numbers, in order, are the definitions'.
 pub fn numbers() -> [usize; NUMBERS]
-    ensures { result ≡ (accepted ∷ no_end ∷ unknown_kind ∷ sizes_misplaced ∷ size_outside ∷ number_outside ∷ not_ascending ∷ too_many_steps ∷ bytes_after_end ∷ no_list_works ∷ over_the_limit ∷ room_too_short ∷ not_well_formed ∷ not_aSession ∷ not_there ∷ list_not_permitted ∷ too_many_runs ∷ lock_without_need ∷ []) }
+    ensures { result ≡ (accepted ∷ no_end ∷ unknown_kind ∷ sizes_misplaced ∷ size_outside ∷ number_outside ∷ not_ascending ∷ too_many_steps ∷ bytes_after_end ∷ no_list_works ∷ over_the_limit ∷ room_too_short ∷ not_well_formed ∷ not_a_session ∷ not_there ∷ list_not_permitted ∷ too_many_runs ∷ lock_without_need ∷ []) }
 {
     [
         ACCEPTED,

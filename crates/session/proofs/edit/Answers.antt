@@ -8,7 +8,7 @@ use Rattle.change.specs.Editing.{edited, cell_inside, leaves_lock, accepts}
 use Rattle.table.proofs.FlagLaws.{and_both}
 use Rattle.table.proofs.Formation.{told_formed, told_unformed, well_formed}
 use Rattle.table.proofs.Strides.{session_places_rows}
-use Rattle.table.specs.Refusals.{not_well_formed, not_aSession, not_there, lock_without_need}
+use Rattle.table.specs.Refusals.{not_well_formed, not_a_session, not_there, lock_without_need}
 use Rattle.table.specs.Tasks.{Shaped, WellFormed}
 use Rattle.session.proofs.CallLaws.{edit_malformed, edit_not_a_session, edit_outside, edit_locked, edits_refused, edits_done, edited_low}
 use Rattle.session.proofs.edit.Goals as goal
@@ -26,7 +26,7 @@ returns-then-table-ne-SESSION_PLACES c =
     let well = told_formed c.args.t shaped c.is_formed.ensures (ap not c.if-not-is_formed.false) in
     let a = c.args in
     rw c.refuse_edit-then-table-ne-SESSION_PLACES.ensures
-    (edits_refused a.t a.table.now a.e not_aSession (omega arith)
+    (edits_refused a.t a.table.now a.e not_a_session (omega arith)
     (edit_not_a_session a.t a.table.now a.e (well_formed a.t well) c.if-table-ne-SESSION_PLACES.true))
 
 pub returns-then-not-is_inside : goal.returns-then-not-is_inside

@@ -4,7 +4,7 @@ use mathlib.Core.Path.{◌≡◌, sym, ap, ◌∙◌}
 use borrow.Author.Rules.{rules}
 use Rattle.table.proofs.OutcomeLaws.{refused_told}
 use Rattle.table.proofs.Formation.{told_formed, told_unformed}
-use Rattle.table.specs.Refusals.{not_well_formed, not_aSession}
+use Rattle.table.specs.Refusals.{not_well_formed, not_a_session}
 use Rattle.table.specs.Tasks.{Shaped}
 use Rattle.session.proofs.CallLaws.{listed_malformed, listed_not_a_session, listed_told}
 use Rattle.session.proofs.FormLaws.{in_form_readable}
@@ -24,7 +24,7 @@ returns-then-not-is_in_form c =
     let well = told_formed c.args.t shaped c.is_formed.ensures (ap not c.if-not-is_formed.false) in
     let good = c.is_in_form in
     let a = c.args in
-    refused_told not_aSession c.refusal-then-not-is_in_form.result a.room.now (listed a.t a.table.now a.room.now) c.refusal-then-not-is_in_form.ensures
+    refused_told not_a_session c.refusal-then-not-is_in_form.result a.room.now (listed a.t a.table.now a.room.now) c.refusal-then-not-is_in_form.ensures
     (listed_not_a_session a.t a.table.now a.room.now well (sym good.ensures ∙ c.if-not-is_in_form.true))
 
 pub report-requires : goal.report-requires

@@ -5,7 +5,7 @@ use borrow.Author.Rules.{rules}
 use native.Mathlib.Omega.{arith}
 use Rattle.table.proofs.Formation.{told_formed, told_unformed, well_formed}
 use Rattle.table.proofs.Strides.{session_places_rows}
-use Rattle.table.specs.Refusals.{not_well_formed, not_aSession}
+use Rattle.table.specs.Refusals.{not_well_formed, not_a_session}
 use Rattle.table.specs.Tasks.{Shaped}
 use Rattle.rows.proofs.TableLaws.{emptied_filled}
 use Rattle.session.proofs.CallLaws.{open_malformed, open_not_a_session, opens_refused, opens_opened}
@@ -24,7 +24,7 @@ returns-then-table-ne-SESSION_PLACES c =
     let well = told_formed c.args.t shaped c.is_formed.ensures (ap not c.if-not-is_formed.false) in
     let a = c.args in
     rw c.refusal-then-table-ne-SESSION_PLACES.ensures
-    (opens_refused a.t a.table.now not_aSession (omega arith)
+    (opens_refused a.t a.table.now not_a_session (omega arith)
     (open_not_a_session a.t a.table.now (well_formed a.t well) c.if-table-ne-SESSION_PLACES.true))
 
 pub empty_rows-requires : goal.empty_rows-requires

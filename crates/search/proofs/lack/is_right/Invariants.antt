@@ -1,4 +1,4 @@
--- `search::lack::is_right_lem` looks along one run after another: the fact is right in those before.
+-- `search::lack::is_right` looks along one run after another: the fact is right in those before.
 use Prim.Native.Nat.{◌-◌, ◌≤◌}
 use Rattle.search.specs.Columns.{column_in}
 use Rattle.search.proofs.SearchLaws.{RightBelow}

@@ -1,4 +1,4 @@
--- `step_in_lem`: a step above 255 counts as 255.
+-- `step_in`: a step above 255 counts as 255.
 use borrow.Author.Tests.{lt-ltb, le-ltb}
 use Rattle.taskwords.specs.Words.{step_in}
 use Rattle.taskwords.proofs.words.step_in.Goals as goal
