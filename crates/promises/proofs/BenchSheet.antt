@@ -58,7 +58,7 @@ use Rattle.promises.proofs.CertificateLaws.{certified_well, certified_within, ce
 use Rattle.promises.proofs.SolvedLaws.{part_well, rest_within, rest_solved}
 use Rattle.promises.specs.Determined.{Only}
 use Rattle.promises.specs.Certificates.{is_right_with, mends, mend_both, none_mends, none_with, is_shut, certifies, certified, of_fact, parts_of}
-use Rattle.promises.specs.Sheet.{reads, lists, checks, solves, refuses, works_later, edits, refuses_edit, sits, leaves, refuses_second, Stands, AllHold, all, ◌and◌, delete_absent, untouched, listing_text, refused_text, stray_text, sheet, steps_of, refusal_files, two_runs_file, two_runs_text, several_runs, keeps_the_goal, gives_nothing, tries_the_next, rejected_steps, locked_file, locked_text, lock_set, need_cleared, stray_lock_set, lock_set_outside, locked_needs, two_sittings, figures}
+use Rattle.promises.specs.Sheet.{reads, lists, checks, solves, refuses, works_later, edits, refuses_edit, sits, leaves, refuses_second, Stands, AllHold, all, ◌and◌, SittingStands, SittingsHold, done, ◌also◌, delete_absent, untouched, listing_text, refused_text, stray_text, sheet, steps_of, refusal_files, two_runs_file, two_runs_text, several_runs, keeps_the_goal, gives_nothing, tries_the_next, rejected_steps, locked_file, locked_text, lock_set, need_cleared, stray_lock_set, lock_set_outside, locked_needs, two_sittings, figures}
 
 -- ---- what is enough for a row of each kind
 
@@ -143,7 +143,7 @@ split_by l a b u v none e = record { morning_ascending = u; afternoon_ascending 
 
 -- By the answer of the whole task: what is left of it.
 leave_row : (t : Task) (l a b : List ℕ) → certified t (parts_of (found l)) ≡ true
-    → join_verdicts (parts_of (found l)) t.table.facts t.table.limit ≡ found l → SplitInto l a b → Stands (leaves t a b)
+    → join_verdicts (parts_of (found l)) t.table.facts t.table.limit ≡ found l → SplitInto l a b → SittingStands (leaves t a b)
 unfolding told
 leave_row t l a b sound joins split r morning room =
     let w = certified_well t (parts_of (found l)) sound in
@@ -157,7 +157,7 @@ leave_row t l a b sound joins split r morning room =
 
 -- Lists none of whose numbers is wrong, one after the other.
 sit_row : (t : Task) (a b l : List ℕ) → is_formed t ≡ true → first_wrong (cells_of t.table) a ≡ length a → first_wrong (cells_of t.table) b ≡ length b
-    → first_shared a b ≡ length b → merged a b ≡ l → Stands (sits t a b l)
+    → first_shared a b ≡ length b → merged a b ≡ l → SittingStands (sits t a b l)
 sit_row t a b l formed fine good none e r s m morning afternoon at_once =
     let q = is_formed_lem t formed in
     let c = cells_of t.table in
@@ -165,7 +165,7 @@ sit_row t a b l formed fine good none e r s m morning afternoon at_once =
     (subst (λ (k : List ℕ). Applies t k m) (sym e) at_once)
 
 second_row : (t : Task) (a b : List ℕ) (i : ℕ) → is_formed t ≡ true → first_wrong (cells_of t.table) a ≡ length a
-    → first_wrong (cells_of t.table) b ≡ length b → first_shared a b ≡ i → ltb i (length b) ≡ true → Stands (refuses_second t a b i)
+    → first_wrong (cells_of t.table) b ≡ length b → first_shared a b ≡ i → ltb i (length b) ≡ true → SittingStands (refuses_second t a b i)
 second_row t a b i formed fine good e low r s morning afternoon =
     let q = is_formed_lem t formed in
     let c = cells_of t.table in
@@ -219,8 +219,8 @@ later_row : Stands (works_later deletes_the_goal (32 ∷ []) (0 ∷ []))
 later_row = (worked.row_7.1, worked.row_7.2)
 
 -- All lists under one, so that what is computed is named once.
-computed : AllHold sheet × AllHold refusal_files × AllHold several_runs × AllHold rejected_steps × AllHold locked_needs × AllHold figures × AllHold two_sittings
-unfolding read_file read_from faults_at wrong_byte place_of first_of is_kind file_order first_place position_of is_cell_kind is_fact_kind body_length body_at misplaced sizes_wrong outside disordered lock_stray table_after runs_after seen_after checked open_report total_open first_open lowest_open open_at is_open may_run controller_at sum_below count_below first_where pair_steps steps_of certified certifies mends mend_both none_mends none_with is_shut is_right_with is_right is_all_right is_formed is_shaped every_place of_fact formed sizes_formed run_formed run_fits action_formed mask_formed locks_formed step_formed step_fits every_below cells_of course_of state_at permitted permits chosen is_in has within joined removed only set_cell gather some_below is_hopeless is_over found_list cell_inside lock_left cell_value join_rows read_against merged with_number first_shared first_wrong wrong_at
+computed : AllHold sheet × AllHold refusal_files × AllHold several_runs × AllHold rejected_steps × AllHold locked_needs × AllHold figures
+unfolding read_file read_from faults_at wrong_byte place_of first_of is_kind file_order first_place position_of is_cell_kind is_fact_kind body_length body_at misplaced sizes_wrong outside disordered lock_stray table_after runs_after seen_after checked open_report total_open first_open lowest_open open_at is_open may_run controller_at sum_below count_below first_where pair_steps steps_of certified certifies mends mend_both none_mends none_with is_shut is_right_with is_right is_all_right is_formed is_shaped every_place of_fact formed sizes_formed run_formed run_fits action_formed mask_formed locks_formed step_formed step_fits every_below cells_of course_of state_at permitted permits chosen is_in has within joined removed only set_cell gather some_below is_hopeless is_over found_list cell_inside lock_left cell_value join_rows read_against
 computed = (
   read_row _ _ _ refl refl and
       read_row _ _ _ refl refl and
@@ -311,16 +311,6 @@ computed = (
       outside_row two_deletes lock_set_outside refl refl and
       all,
   solve_row _ _ refl refl and solve_row _ _ refl refl and all,
-  refl and
-      leave_row listing_task pair _ _ refl refl (split_by pair (97 ∷ []) (224 ∷ []) (omega arith, tt) (omega arith, tt) refl refl) and
-      sit_row listing_task _ _ _ refl refl refl refl refl and
-      leave_row listing_task pair _ _ refl refl (split_by pair (224 ∷ []) (97 ∷ []) (omega arith, tt) (omega arith, tt) refl refl) and
-      sit_row listing_task _ _ _ refl refl refl refl refl and
-      sit_row listing_task _ _ _ refl refl refl refl refl and
-      leave_row locked_need locked_pair _ _ refl refl (split_by locked_pair (1 ∷ []) (0 ∷ []) (omega arith, tt) (omega arith, tt) refl refl) and
-      leave_row listing_task pair _ _ refl refl (split_by pair [] pair tt (omega arith, (omega arith, tt)) refl refl) and
-      second_row listing_task _ _ 3 refl refl refl refl refl and
-      all,
 )
 
 pub bench_sheet : AllHold sheet
@@ -341,5 +331,16 @@ locked_needs_lem = computed.4
 pub source_figures : AllHold figures
 source_figures = computed.5
 
-pub two_sittings_lem : AllHold two_sittings
-two_sittings_lem = computed.6
+pub two_sittings_lem : SittingsHold two_sittings
+unfolding read_file read_from faults_at wrong_byte place_of first_of is_kind file_order first_place position_of is_cell_kind is_fact_kind body_length body_at misplaced sizes_wrong outside disordered lock_stray table_after runs_after seen_after checked open_report total_open first_open lowest_open open_at is_open may_run controller_at sum_below count_below first_where pair_steps steps_of certified certifies mends mend_both none_mends none_with is_shut is_right_with is_right is_all_right is_formed is_shaped every_place of_fact formed sizes_formed run_formed run_fits action_formed mask_formed locks_formed step_formed step_fits every_below cells_of course_of state_at permitted permits chosen is_in has within joined removed only set_cell gather some_below is_hopeless is_over found_list cell_inside lock_left cell_value join_rows read_against merged with_number first_shared first_wrong wrong_at
+two_sittings_lem =
+    refl also
+    leave_row listing_task pair _ _ refl refl (split_by pair (97 ∷ []) (224 ∷ []) (omega arith, tt) (omega arith, tt) refl refl) also
+    sit_row listing_task _ _ _ refl refl refl refl refl also
+    leave_row listing_task pair _ _ refl refl (split_by pair (224 ∷ []) (97 ∷ []) (omega arith, tt) (omega arith, tt) refl refl) also
+    sit_row listing_task _ _ _ refl refl refl refl refl also
+    sit_row listing_task _ _ _ refl refl refl refl refl also
+    leave_row locked_need locked_pair _ _ refl refl (split_by locked_pair (1 ∷ []) (0 ∷ []) (omega arith, tt) (omega arith, tt) refl refl) also
+    leave_row listing_task pair _ _ refl refl (split_by pair [] pair tt (omega arith, (omega arith, tt)) refl refl) also
+    second_row listing_task _ _ 3 refl refl refl refl refl also
+    done

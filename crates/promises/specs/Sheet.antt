@@ -30,6 +30,7 @@ use Rattle.taskformat.specs.Reading.{ReadsFile, refused_read, accepted_read}
 use Rattle.promises.specs.Determined.{Only}
 
 infixr 20 ◌and◌
+infixr 20 ◌also◌
 -- What a row says of a call.
 pub data BenchRow : Type 0 where
   -- a file of so many bytes is read so
@@ -50,14 +51,6 @@ pub data BenchRow : Type 0 where
   edits : Task → Edit → List ℕ → ℕ → BenchRow
   -- an edit of a session is refused with this number, and nothing is changed
   refuses_edit : Task → Edit → ℕ → BenchRow
-  -- two lists are merged so
-  merges : List ℕ → List ℕ → List ℕ → BenchRow
-  -- two lists, one after the other, are accepted and give what the third one gives at once
-  sits : Task → List ℕ → List ℕ → List ℕ → BenchRow
-  -- after a list, a solve of the table as it then stands gives another, into whatever room is lent that is enough for it (else 11)
-  leaves : Task → List ℕ → List ℕ → BenchRow
-  -- after a list, another one is refused with 15 at this index, and the table is given back as the first one made it
-  refuses_second : Task → List ℕ → List ℕ → ℕ → BenchRow
 
 -- The row holds: the call's contract allows what the row says, and nothing else. For an edit: whatever opening and the edit may give.
 abbrev pub Stands : BenchRow → Type 0
@@ -73,11 +66,6 @@ Stands (edits t e l kept) =
     → (r.number ≡ 0) × ((room : List ℕ) → listed r.task after room ≡ given l room) × (row_at after kept ≡ row_at s kept)
 Stands (refuses_edit t e n) =
     (s after : List ℕ) (r : TaskReply) → length s ≡ 448 → Edits t s e r after → (r ≡ record { number = n; place = 0; task = t }) × (after ≡ s)
-Stands (merges a b l) = merged a b ≡ l
-Stands (sits t a b l) = (r s m : TaskReply) → Applies t a r → Applies r.task b s → Applies t l m → (s.number ≡ 0) × (s ≡ m)
-Stands (leaves t a l) = (r : TaskReply) → Applies t a r → (room : List ℕ) → Only (Solves r.task room) (given l room)
-Stands (refuses_second t a b i) =
-    (r s : TaskReply) → Applies t a r → Applies r.task b s → s ≡ record { number = 15; place = i; task = r.task }
 
 -- Every row of a list holds.
 pub data AllHold : List BenchRow → Type 0 where
@@ -296,7 +284,31 @@ locked_needs =
 
 -- ---- lists in two sittings (02, request 7)
 
-abbrev pub two_sittings : List BenchRow
+-- What a row says of two sittings.
+pub data SittingRow : Type 0 where
+  -- two lists are merged so
+  merges : List ℕ → List ℕ → List ℕ → SittingRow
+  -- two lists, one after the other, are accepted and give what the third one gives at once
+  sits : Task → List ℕ → List ℕ → List ℕ → SittingRow
+  -- after a list, a solve of the table as it then stands gives another, into whatever room is lent that is enough for it (else 11)
+  leaves : Task → List ℕ → List ℕ → SittingRow
+  -- after a list, another one is refused with 15 at this index, and the table is given back as the first one made it
+  refuses_second : Task → List ℕ → List ℕ → ℕ → SittingRow
+
+-- The row holds: the calls' contract allows what the row says, and nothing else.
+abbrev pub SittingStands : SittingRow → Type 0
+SittingStands (merges a b l) = merged a b ≡ l
+SittingStands (sits t a b l) = (r s m : TaskReply) → Applies t a r → Applies r.task b s → Applies t l m → (s.number ≡ 0) × (s ≡ m)
+SittingStands (leaves t a l) = (r : TaskReply) → Applies t a r → (room : List ℕ) → Only (Solves r.task room) (given l room)
+SittingStands (refuses_second t a b i) =
+    (r s : TaskReply) → Applies t a r → Applies r.task b s → s ≡ record { number = 15; place = i; task = r.task }
+
+-- Every row of a list holds.
+pub data SittingsHold : List SittingRow → Type 0 where
+  done : SittingsHold []
+  ◌also◌ : {row : SittingRow} {rows : List SittingRow} → SittingStands row → SittingsHold rows → SittingsHold (row ∷ rows)
+
+abbrev pub two_sittings : List SittingRow
 two_sittings =
     -- "the merged list": ascending, the numbers of both; one that they share stands once
     merges (64 ∷ 129 ∷ 224 ∷ []) (33 ∷ 129 ∷ 320 ∷ []) (33 ∷ 64 ∷ 129 ∷ 224 ∷ 320 ∷ []) ∷
