@@ -58,7 +58,7 @@ use Rattle.promises.proofs.CertificateLaws.{certified_well, certified_within, ce
 use Rattle.promises.proofs.SolvedLaws.{part_well, rest_within, rest_solved}
 use Rattle.promises.specs.Determined.{Only}
 use Rattle.promises.specs.Certificates.{is_right_with, mends, mend_both, none_mends, none_with, is_shut, certifies, certified, of_fact, parts_of}
-use Rattle.promises.specs.Sheet.{reads, lists, checks, solves, refuses, works_later, edits, refuses_edit, sits, leaves, refuses_second, Stands, AllHold, all, ◌and◌, SittingStands, SittingsHold, done, ◌also◌, delete_absent, untouched, listing_text, refused_text, stray_text, sheet, steps_of, refusal_files, two_runs_file, two_runs_text, several_runs, keeps_the_goal, gives_nothing, tries_the_next, rejected_steps, locked_file, locked_text, lock_set, need_cleared, stray_lock_set, lock_set_outside, locked_needs, two_sittings, figures}
+use Rattle.promises.specs.Sheet.{reads, lists, checks, solves, refuses, works_later, edits, refuses_edit, sits, leaves, refuses_second, Stands, AllHold, all, ◌and◌, SittingStands, SittingsHold, no_more, ◌besides◌, delete_absent, untouched, listing_text, refused_text, stray_text, sheet, steps_of, refusal_files, two_runs_file, two_runs_text, several_runs, keeps_the_goal, gives_nothing, tries_the_next, rejected_steps, locked_file, locked_text, lock_set, need_cleared, stray_lock_set, lock_set_outside, locked_needs, two_sittings, figures}
 
 -- ---- what is enough for a row of each kind
 
@@ -334,13 +334,13 @@ source_figures = computed.5
 pub two_sittings_lem : SittingsHold two_sittings
 unfolding read_file read_from faults_at wrong_byte place_of first_of is_kind file_order first_place position_of is_cell_kind is_fact_kind body_length body_at misplaced sizes_wrong outside disordered lock_stray table_after runs_after seen_after checked open_report total_open first_open lowest_open open_at is_open may_run controller_at sum_below count_below first_where pair_steps steps_of certified certifies mends mend_both none_mends none_with is_shut is_right_with is_right is_all_right is_formed is_shaped every_place of_fact formed sizes_formed run_formed run_fits action_formed mask_formed locks_formed step_formed step_fits every_below cells_of course_of state_at permitted permits chosen is_in has within joined removed only set_cell gather some_below is_hopeless is_over found_list cell_inside lock_left cell_value join_rows read_against merged with_number first_shared first_wrong wrong_at
 two_sittings_lem =
-    refl also
-    leave_row listing_task pair _ _ refl refl (split_by pair (97 ∷ []) (224 ∷ []) (omega arith, tt) (omega arith, tt) refl refl) also
-    sit_row listing_task _ _ _ refl refl refl refl refl also
-    leave_row listing_task pair _ _ refl refl (split_by pair (224 ∷ []) (97 ∷ []) (omega arith, tt) (omega arith, tt) refl refl) also
-    sit_row listing_task _ _ _ refl refl refl refl refl also
-    sit_row listing_task _ _ _ refl refl refl refl refl also
-    leave_row locked_need locked_pair _ _ refl refl (split_by locked_pair (1 ∷ []) (0 ∷ []) (omega arith, tt) (omega arith, tt) refl refl) also
-    leave_row listing_task pair _ _ refl refl (split_by pair [] pair tt (omega arith, (omega arith, tt)) refl refl) also
-    second_row listing_task _ _ 3 refl refl refl refl refl also
-    done
+    refl besides
+    leave_row listing_task pair _ _ refl refl (split_by pair (97 ∷ []) (224 ∷ []) (omega arith, tt) (omega arith, tt) refl refl) besides
+    sit_row listing_task _ _ _ refl refl refl refl refl besides
+    leave_row listing_task pair _ _ refl refl (split_by pair (224 ∷ []) (97 ∷ []) (omega arith, tt) (omega arith, tt) refl refl) besides
+    sit_row listing_task _ _ _ refl refl refl refl refl besides
+    sit_row listing_task _ _ _ refl refl refl refl refl besides
+    leave_row locked_need locked_pair _ _ refl refl (split_by locked_pair (1 ∷ []) (0 ∷ []) (omega arith, tt) (omega arith, tt) refl refl) besides
+    leave_row listing_task pair _ _ refl refl (split_by pair [] pair tt (omega arith, (omega arith, tt)) refl refl) besides
+    second_row listing_task _ _ 3 refl refl refl refl refl besides
+    no_more

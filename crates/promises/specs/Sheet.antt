@@ -30,7 +30,7 @@ use Rattle.taskformat.specs.Reading.{ReadsFile, refused_read, accepted_read}
 use Rattle.promises.specs.Determined.{Only}
 
 infixr 20 ◌and◌
-infixr 20 ◌also◌
+infixr 20 ◌besides◌
 -- What a row says of a call.
 pub data BenchRow : Type 0 where
   -- a file of so many bytes is read so
@@ -305,8 +305,8 @@ SittingStands (refuses_second t a b i) =
 
 -- Every row of a list holds.
 pub data SittingsHold : List SittingRow → Type 0 where
-  done : SittingsHold []
-  ◌also◌ : {row : SittingRow} {rows : List SittingRow} → SittingStands row → SittingsHold rows → SittingsHold (row ∷ rows)
+  no_more : SittingsHold []
+  ◌besides◌ : {row : SittingRow} {rows : List SittingRow} → SittingStands row → SittingsHold rows → SittingsHold (row ∷ rows)
 
 abbrev pub two_sittings : List SittingRow
 two_sittings =
