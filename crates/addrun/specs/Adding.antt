@@ -4,10 +4,10 @@ use Rattle.std.specs.Prelude.{cond, List, ℕ, zero, suc, ◌+◌, ◌*◌, leng
 use Rattle.std.proofs.lemmas.List.Edits.{sets}
 use Rattle.table.specs.Refusals.{not_well_formed}
 use Rattle.table.specs.Sizes.{max_steps}
-use Rattle.table.specs.Tasks.{start_of, goal_of, count_of, unlocked, formed}
+use Rattle.table.specs.Tasks.{start_of, goal_of, count_of, unlocked, formed, no_task}
 use Rattle.table.specs.declared.Task.{Task}
 use Rattle.table.specs.declared.TaskReply.{TaskReply}
-use Rattle.taskformat.specs.Reading.{no_task, accepted_read}
+use Rattle.taskformat.specs.Reading.{accepted_read}
 
 -- The task with one run more, after those that it has: its steps stand from place 64 times its number on. The table stays.
 unfoldable pub with_run : Task → ℕ → ℕ → List ℕ → Task

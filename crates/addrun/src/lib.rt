@@ -4,22 +4,12 @@
 
 ghost use Rattle.std.specs.Prelude.{◌≡◌, ◌+◌, ◌<◌, ◌≤◌, length};
 ghost use Rattle.std.proofs.lemmas.List.Edits.{sets};
+ghost use Rattle.table.specs.Outcomes.{made_of};
 ghost use Rattle.table.specs.Sizes.{max_runs, max_steps, all_steps};
-ghost use Rattle.addrun.specs.Adding.{with_run, refused_run, run_added};
+ghost use Rattle.addrun.specs.Adding.{with_run, run_added};
 
-use table::{ALL_STEPS, RUNS, STEPS, Task, TaskReply, formed, refusals};
-
-// The steps of all runs, with those of one run stored from its first place on.
-fn put_steps(all: [u8; ALL_STEPS], first: usize, steps: &[u8]) -> [u8; ALL_STEPS]
-    requires { first + length steps.now ≤ all_steps }
-    ensures { result ≡ sets all first steps.now }
-{
-    let mut all = all;
-    for i in 0..steps.len() {
-        all[first + i] = steps[i];
-    }
-    all
-}
+use table::refusals::{Returned, Why};
+use table::{ALL_STEPS, RUNS, STEPS, Task, formed};
 
 // The task with one run more, where there is room for it.
 fn with_run(task: Task, start: u64, goal: u64, steps: &[u8]) -> Task
@@ -27,48 +17,31 @@ fn with_run(task: Task, start: u64, goal: u64, steps: &[u8]) -> Task
     requires steps_len_bound { length steps.now ≤ max_steps }
     ensures { result ≡ with_run task start goal steps.now }
 {
-    let table = task.table;
     let mut runs = task.runs;
     let run = runs.many;
-    let before = runs.steps;
-    let all = put_steps(before, STEPS * run, steps);
+    let first = STEPS * run;
     runs.starts[run] = start;
     runs.goals[run] = goal;
     runs.counts[run] = steps.len();
-    runs.steps = all;
+    runs.steps[first..first + steps.len()].copy_from_slice(steps);
     runs.many = run + 1;
-    Task { table, runs }
-}
-
-// 12, with the task as it was.
-fn refused(task: Task) -> TaskReply
-    ensures { result ≡ refused_run task }
-{
-    TaskReply {
-        number: refusals::NOT_WELL_FORMED,
-        place: 0,
-        task,
-    }
+    Task { runs, ..task }
 }
 
 // Puts the run to the task, after those that it has, or gives the refusal and the task as it was.
-pub fn add_run(task: Task, start: u64, goal: u64, steps: &[u8]) -> TaskReply
-    ensures { result ≡ run_added task start goal steps.now }
+pub fn add_run(task: Task, start: u64, goal: u64, steps: &[u8]) -> Result<Task, Returned>
+    ensures { made_of result ≡ run_added task start goal steps.now }
 {
     // A run or a step that the arrays have no place for: such a task is not well formed either.
     if RUNS <= task.runs.many {
-        return refused(task);
+        return Err(Why::NotWellFormed.at(0).returning(task));
     }
     if STEPS < steps.len() {
-        return refused(task);
+        return Err(Why::NotWellFormed.at(0).returning(task));
     }
     let more = with_run(task, start, goal, steps);
     if !formed::is_formed(more) {
-        return refused(task);
+        return Err(Why::NotWellFormed.at(0).returning(task));
     }
-    TaskReply {
-        number: refusals::ACCEPTED,
-        place: 0,
-        task: more,
-    }
+    Ok(more)
 }

@@ -3,9 +3,9 @@ use mathlib.Core.Bool.{Bool, true, false, not, ◌&&◌, ◌||◌}
 use mathlib.Core.List.{List}
 use mathlib.Core.Path.{◌≡◌, sym, ap, ◌∙◌, subst}
 use Prim.Native.Nat.{ℕ, zero, suc, ◌-◌, ◌<◌, ◌≤◌}
-use native.Mathlib.Nat.{le_refl}
 use native.Mathlib.Omega.{arith}
 use lib.Dec.{ltb, leb}
+use Rattle.std.specs.Prelude.{Option, Some, None, MatchOption}
 use lib.ListN.{length, get_or}
 use borrow.Author.Tests.{lt-ltb, leb-false, lt-leb, not-false}
 use Rattle.table.proofs.CountingLaws.{first_where_found, first_where_none, first_where_at}
@@ -17,17 +17,15 @@ use Rattle.table.specs.Strips.{Cells}
 use Rattle.apply.specs.Applying.{wrong_at, first_wrong}
 use Rattle.change.proofs.MemberLaws.{get_or_is_in, is_in_all, steps_ascending, ascending_steps}
 
--- ---- the first wrong number, as the loop finds it
+-- ---- the first wrong number, as it is searched for
 
-pub first_wrong_found : (c : Cells) (l : List ℕ) (i : ℕ) → i < length l → wrong_at c l i ≡ true → ((j : ℕ) → j < i → wrong_at c l j ≡ false) → i ≡ first_wrong c l
+pub first_wrong_searched : (c : Cells) (l : List ℕ) (r : Option ℕ)
+    → MatchOption r ((k : ℕ) → 0 ≤ k → k < length l → wrong_at c l k ≡ false)
+    (λ i. (0 ≤ i) × (i < length l) × (wrong_at c l i ≡ true) × ((k : ℕ) → 0 ≤ k → k < i → wrong_at c l k ≡ false))
+    → MatchOption r (first_wrong c l ≡ length l) (λ i. (i < length l) × (i ≡ first_wrong c l))
 unfolding first_wrong
-first_wrong_found c l i h e none = sym (first_where_found (wrong_at c l) (length l) i h e none)
-
-pub first_wrong_none : (c : Cells) (l : List ℕ) (i : ℕ) → i ≤ length l → length l ≤ i → ((j : ℕ) → j < i → wrong_at c l j ≡ false) → i ≡ first_wrong c l
-unfolding first_wrong
-first_wrong_none c l i h k none =
-    let e : i ≡ length l = omega arith in
-    e ∙ sym (first_where_none (wrong_at c l) (length l) (λ j m. none j (omega arith)))
+first_wrong_searched c l None none = first_where_none (wrong_at c l) (length l) (λ j m. none j (omega arith) m)
+first_wrong_searched c l (Some i) h = (h.1, sym (first_where_found (wrong_at c l) (length l) i h.1 h.2 (λ k. h.3 k (omega arith))))
 
 pub first_wrong_le : (c : Cells) (l : List ℕ) → first_wrong c l ≤ length l
 unfolding first_wrong
@@ -74,4 +72,5 @@ module _ (c : Cells) (l : List ℕ) where
       neither (ltb 0 (suc i)) (lt-leb (get_or l (suc i) 0) (get_or l (suc i - 1) 0) above) (p.each (get_or l (suc i) 0) (get_or_is_in l (suc i) h))
 
   pub list_permitted : Permitted c l → first_wrong c l ≡ length l
-  list_permitted p = sym (first_wrong_none c l (length l) (le_refl (length l)) (le_refl (length l)) (permitted_right p))
+  unfolding first_wrong
+  list_permitted p = first_where_none (wrong_at c l) (length l) (permitted_right p)

@@ -32,36 +32,36 @@ AnswersReply room after Replies =
 abbrev pub AnswersOutcome : List ℕ → List ℕ → (Outcome → Type 0) → List ℕ → List ℕ → ℕ → Type 0
 AnswersOutcome room after Gives = AnswersReply room after (λ y. Gives (record { reply = y; room = after }))
 
-unfoldable pub HandsRecord : List ℕ → ℕ → List ℕ → List ℕ → ℕ → Type 0
+abbrev pub HandsRecord : List ℕ → ℕ → List ℕ → List ℕ → ℕ → Type 0
 HandsRecord file at = Answers record_length Nothing (λ words. words ≡ record_words (record_at file at))
 
-unfoldable pub ReadsTask : List ℕ → List ℕ → List ℕ → ℕ → Type 0
+abbrev pub ReadsTask : List ℕ → List ℕ → List ℕ → ℕ → Type 0
 ReadsTask file =
     Answers answer_most Nothing
     (λ words. (y : TaskReply) × ReadsFile file y × (words ≡ task_answer y.number y.place y.task))
 
-unfoldable pub WritesTask : List ℕ → List ℕ → List ℕ → List ℕ → List ℕ → ℕ → Type 0
+abbrev pub WritesTask : List ℕ → List ℕ → List ℕ → List ℕ → List ℕ → ℕ → Type 0
 WritesTask ws room after = AnswersOutcome room after (λ o. o ≡ written (task_in ws) room)
 
 -- "a run check names its run" (02, request 1)
-unfoldable pub ChecksRun : List ℕ → ℕ → List ℕ → List ℕ → ℕ → Type 0
+abbrev pub ChecksRun : List ℕ → ℕ → List ℕ → List ℕ → ℕ → Type 0
 ChecksRun ws run = Answers checked_length Nothing (λ words. words ≡ checked_words (checked (task_in ws) run))
 
 -- The task's words are ws before the call and `left` after it.
-unfoldable pub AppliesList : List ℕ → List ℕ → List ℕ → List ℕ → List ℕ → ℕ → Type 0
+abbrev pub AppliesList : List ℕ → List ℕ → List ℕ → List ℕ → List ℕ → ℕ → Type 0
 AppliesList ws left list =
     Answers changed_length (left ≡ ws)
     (λ words.
     (y : TaskReply) × (Applies (task_in ws) list y × (left ≡ lent_back ws y.number y.task)) ×
     (words ≡ changed_words y.number y.place))
 
-unfoldable pub SolvesTask : List ℕ → List ℕ → List ℕ → List ℕ → List ℕ → ℕ → Type 0
+abbrev pub SolvesTask : List ℕ → List ℕ → List ℕ → List ℕ → List ℕ → ℕ → Type 0
 SolvesTask ws room after = AnswersOutcome room after (Solves (task_in ws) room)
 
-unfoldable pub OpensSession : List ℕ → List ℕ → List ℕ → List ℕ → List ℕ → ℕ → Type 0
+abbrev pub OpensSession : List ℕ → List ℕ → List ℕ → List ℕ → List ℕ → ℕ → Type 0
 OpensSession ws table after = AnswersReply table after (λ y. Opens (task_in ws) table y after)
 
-unfoldable pub EditsSession : List ℕ → List ℕ → ℕ → ℕ → ℕ → ℕ → List ℕ → List ℕ → List ℕ → List ℕ → ℕ → Type 0
+abbrev pub EditsSession : List ℕ → List ℕ → ℕ → ℕ → ℕ → ℕ → List ℕ → List ℕ → List ℕ → List ℕ → ℕ → Type 0
 EditsSession ws left kind whose fact present table after =
     Answers changed_length ((left ≡ ws) × (after ≡ table))
     (λ words.
@@ -69,35 +69,35 @@ EditsSession ws left kind whose fact present table after =
     (Edits (task_in ws) table (edit_of kind whose fact present) y after × (left ≡ lent_back ws y.number y.task)) ×
     (words ≡ changed_words y.number y.place))
 
-unfoldable pub ListsSession : List ℕ → List ℕ → List ℕ → List ℕ → List ℕ → List ℕ → ℕ → Type 0
+abbrev pub ListsSession : List ℕ → List ℕ → List ℕ → List ℕ → List ℕ → List ℕ → ℕ → Type 0
 ListsSession ws table room after = AnswersOutcome room after (λ o. o ≡ listed (task_in ws) table room)
 
-unfoldable pub ListsInput : List ℕ → List ℕ → List ℕ → List ℕ → List ℕ → ℕ → Type 0
+abbrev pub ListsInput : List ℕ → List ℕ → List ℕ → List ℕ → List ℕ → ℕ → Type 0
 ListsInput input room after = AnswersOutcome room after (ListsInto input room)
 
 -- ---- 02, request 4
 
-unfoldable pub WritesDomain : List ℕ → List ℕ → List ℕ → List ℕ → List ℕ → ℕ → Type 0
+abbrev pub WritesDomain : List ℕ → List ℕ → List ℕ → List ℕ → List ℕ → ℕ → Type 0
 WritesDomain ws room after = AnswersOutcome room after (λ o. o ≡ domain_written (task_in ws) room)
 
 -- "one problem text for each run": a call names its run
-unfoldable pub WritesProblem : List ℕ → ℕ → List ℕ → List ℕ → List ℕ → List ℕ → ℕ → Type 0
+abbrev pub WritesProblem : List ℕ → ℕ → List ℕ → List ℕ → List ℕ → List ℕ → ℕ → Type 0
 WritesProblem ws run room after = AnswersOutcome room after (λ o. o ≡ problem_written (task_in ws) run room)
 
 -- "Steps and L are passed beside it": L here, the steps where a run is added
-unfoldable pub HandsDomain : List ℕ → ℕ → List ℕ → List ℕ → ℕ → Type 0
+abbrev pub HandsDomain : List ℕ → ℕ → List ℕ → List ℕ → ℕ → Type 0
 HandsDomain text limit =
     Answers answer_most Nothing
     (λ words. (y : TaskReply) × ReadsDomain text limit y × (words ≡ task_answer y.number y.place y.task))
 
-unfoldable pub HandsProblem : List ℕ → ℕ → List ℕ → List ℕ → ℕ → Type 0
+abbrev pub HandsProblem : List ℕ → ℕ → List ℕ → List ℕ → ℕ → Type 0
 HandsProblem text facts =
     Answers problem_length Nothing
     (λ words.
     (y : ProblemReply) × ReadsProblem text facts y × (words ≡ problem_words y.number y.place y.start y.goal))
 
 -- The task's words are ws before the call and `left` after it.
-unfoldable pub AddsRun : List ℕ → List ℕ → ℕ → ℕ → List ℕ → List ℕ → List ℕ → ℕ → Type 0
+abbrev pub AddsRun : List ℕ → List ℕ → ℕ → ℕ → List ℕ → List ℕ → List ℕ → ℕ → Type 0
 AddsRun ws left start goal steps =
     Answers changed_length (left ≡ ws)
     (λ words.

@@ -3,7 +3,7 @@
 // is called, and the answer is 255. A task that a call changes is lent in and out. The archive that such a caller links is made of
 // `boundary_c`, which has each function once more: no library exports any.
 
-#![tactic(auto)]
+#![tactic(auto, using(taskwords::proofs::AnsweringLaws::answers_short))]
 
 pub mod texts;
 
@@ -11,11 +11,12 @@ ghost use Rattle.boundary.specs.BoundaryCalls.{HandsRecord, ReadsTask, WritesTas
 
 use apply::apply;
 use listing::listing;
-use records::record::record_at;
-use runcheck::check_run;
+use records::record::{RecordReply, record_at};
+use runcheck::{Checked, check_run};
 use session::edits::edit_of;
 use session::{edit, list, open};
 use solve::solve;
+use table::{Reply, TaskReply};
 use taskfile::read;
 use taskwords::answer::{
     give_back, give_changed, give_checked, give_record, give_reply, give_task,
@@ -47,7 +48,7 @@ pub extern "C" fn zp_record(file: &[u8], at: usize, answer: &mut [u64]) -> usize
     if answer.len() < RECORD_WORDS {
         return ANSWER_TOO_SHORT;
     }
-    let found = record_at(file, at);
+    let found = RecordReply::from(record_at(file, at));
     give_record(found, answer)
 }
 
@@ -59,9 +60,7 @@ pub extern "C" fn zp_read(file: &[u8], answer: &mut [u64]) -> usize
     if answer.len() < TASK_ANSWER_WORDS {
         return ANSWER_TOO_SHORT;
     }
-    let found = read(file);
-    let task = found.task;
-    give_task(found.number, found.place, task, answer)
+    give_task(TaskReply::from(read(file)), answer)
 }
 
 // The task's file into lent room.
@@ -73,7 +72,7 @@ pub extern "C" fn zp_write(task: &[u64], room: &mut [u8], answer: &mut [u64]) ->
         return ANSWER_TOO_SHORT;
     }
     let t = task_in(task);
-    let reply = write(t, room);
+    let reply = Reply::from(write(t, room));
     give_reply(reply, answer)
 }
 
@@ -86,7 +85,7 @@ pub extern "C" fn zp_check(task: &[u64], run: usize, answer: &mut [u64]) -> usiz
         return ANSWER_TOO_SHORT;
     }
     let t = task_in(task);
-    let found = check_run(t, run);
+    let found = Checked::from(check_run(t, run));
     give_checked(found, answer)
 }
 
@@ -99,10 +98,13 @@ pub extern "C" fn zp_apply(task: &mut [u64], list: &[u16], answer: &mut [u64]) -
         return ANSWER_TOO_SHORT;
     }
     let t = task_in(task);
-    let done = apply(t, list);
-    let repaired = done.task;
-    give_back(done.number, repaired, task);
-    give_changed(done.number, done.place, answer)
+    let TaskReply {
+        number,
+        place,
+        task: repaired,
+    } = TaskReply::from(apply(t, list));
+    give_back(number, repaired, task);
+    give_changed(number, place, answer)
 }
 
 // The least repair list into lent room.
@@ -114,7 +116,7 @@ pub extern "C" fn zp_solve(task: &[u64], room: &mut [u16], answer: &mut [u64]) -
         return ANSWER_TOO_SHORT;
     }
     let t = task_in(task);
-    let reply = solve(t, room);
+    let reply = Reply::from(solve(t, room));
     give_reply(reply, answer)
 }
 
@@ -127,7 +129,7 @@ pub extern "C" fn zp_open(task: &[u64], table: &mut [u16], answer: &mut [u64]) -
         return ANSWER_TOO_SHORT;
     }
     let t = task_in(task);
-    let reply = open(t, table);
+    let reply = Reply::from(open(t, table));
     give_reply(reply, answer)
 }
 
@@ -151,10 +153,13 @@ pub extern "C" fn zp_edit(
     }
     let t = task_in(task);
     let e = edit_of(kind, whose, fact, present);
-    let done = edit(t, table, e);
-    let edited = done.task;
-    give_back(done.number, edited, task);
-    give_changed(done.number, done.place, answer)
+    let TaskReply {
+        number,
+        place,
+        task: edited,
+    } = TaskReply::from(edit(t, table, e));
+    give_back(number, edited, task);
+    give_changed(number, place, answer)
 }
 
 // The list of a session table into lent room.
@@ -172,7 +177,7 @@ pub extern "C" fn zp_list(
         return ANSWER_TOO_SHORT;
     }
     let t = task_in(task);
-    let reply = list(t, table, room);
+    let reply = Reply::from(list(t, table, room));
     give_reply(reply, answer)
 }
 
@@ -184,6 +189,6 @@ pub extern "C" fn zp_listing(input: &[u8], room: &mut [u8], answer: &mut [u64]) 
     if answer.len() < REPLY_WORDS {
         return ANSWER_TOO_SHORT;
     }
-    let reply = listing(input, room);
+    let reply = Reply::from(listing(input, room));
     give_reply(reply, answer)
 }

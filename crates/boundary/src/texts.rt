@@ -3,8 +3,10 @@ ghost use Rattle.boundary.specs.BoundaryCalls.{WritesDomain, WritesProblem, Hand
 
 use crate::{ANSWER_TOO_SHORT, CHANGED_WORDS, PROBLEM_WORDS, REPLY_WORDS, TASK_ANSWER_WORDS};
 use addrun::add_run;
+use pddl::ProblemReply;
 use pddlreader::{read_domain, read_problem};
 use pddlwriter::{write_domain, write_problem};
+use table::{Reply, TaskReply};
 use taskwords::answer::{give_back, give_changed, give_problem, give_reply, give_task};
 use taskwords::words::task_in;
 
@@ -17,7 +19,7 @@ pub extern "C" fn zp_write_domain(task: &[u64], room: &mut [u8], answer: &mut [u
         return ANSWER_TOO_SHORT;
     }
     let t = task_in(task);
-    let reply = write_domain(t, room);
+    let reply = Reply::from(write_domain(t, room));
     give_reply(reply, answer)
 }
 
@@ -35,7 +37,7 @@ pub extern "C" fn zp_write_problem(
         return ANSWER_TOO_SHORT;
     }
     let t = task_in(task);
-    let reply = write_problem(t, run, room);
+    let reply = Reply::from(write_problem(t, run, room));
     give_reply(reply, answer)
 }
 
@@ -47,9 +49,7 @@ pub extern "C" fn zp_read_domain(text: &[u8], limit: usize, answer: &mut [u64]) 
     if answer.len() < TASK_ANSWER_WORDS {
         return ANSWER_TOO_SHORT;
     }
-    let found = read_domain(text, limit);
-    let task = found.task;
-    give_task(found.number, found.place, task, answer)
+    give_task(TaskReply::from(read_domain(text, limit)), answer)
 }
 
 // The start and the goal of a problem text over so many facts.
@@ -60,7 +60,7 @@ pub extern "C" fn zp_read_problem(text: &[u8], facts: usize, answer: &mut [u64])
     if answer.len() < PROBLEM_WORDS {
         return ANSWER_TOO_SHORT;
     }
-    let found = read_problem(text, facts);
+    let found = ProblemReply::from(read_problem(text, facts));
     give_problem(found.number, found.place, found.start, found.goal, answer)
 }
 
@@ -79,8 +79,11 @@ pub extern "C" fn zp_add_run(
         return ANSWER_TOO_SHORT;
     }
     let t = task_in(task);
-    let done = add_run(t, start, goal, steps);
-    let longer = done.task;
-    give_back(done.number, longer, task);
-    give_changed(done.number, done.place, answer)
+    let TaskReply {
+        number,
+        place,
+        task: longer,
+    } = TaskReply::from(add_run(t, start, goal, steps));
+    give_back(number, longer, task);
+    give_changed(number, place, answer)
 }

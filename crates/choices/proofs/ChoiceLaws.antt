@@ -1,4 +1,5 @@
 -- Laws of sets of one fact's repairs: their lists, one repair more, two sets as one, what two share.
+use Rattle.std.specs.Prelude.{Option, Some, None, is_some}
 use mathlib.Core.Bool.{Bool, true, false, cond, not, ◌&&◌, ◌||◌, false≢true, true≢false, or_comm}
 use mathlib.Core.List.{List, [], ◌∷◌}
 use mathlib.Core.Logic.{◌⊎◌, inl, inr, ⊎_elim}
@@ -22,7 +23,7 @@ use Rattle.table.proofs.OrderLaws
 use Rattle.table.proofs.RepairNumbers.{kind_cases}
 use Rattle.choices.specs.declared.Choice.{Choice}
 use Rattle.choices.specs.Choices.{code_kind, code_action, code_number, nothing, in_choice, numbers_in, list_of, Contains, Misses, Meets, Apart}
-use Rattle.choices.specs.Trying.{with_mask, mask_in, with_repair, both_of, shared_by, without_those, NextIn, Sharing}
+use Rattle.choices.specs.Trying.{with_mask, mask_in, with_repair, both_of, shared_by, without_those, NextIn, FirstIn, Sharing}
 
 -- ---- the list of a set of codes
 
@@ -134,7 +135,7 @@ module _ (f : ℕ) (s : Choice) where
       subst (λ k. R k ≡ true) (sym d.number) (part d.index d.below d.passes)
 
 pub in_nothing : (code : ℕ) → in_choice nothing code ≡ false
-unfolding in_choice nothing
+unfolding in_choice
 in_nothing code = ap (λ m. has m (code_action code)) (none (code_kind code)) ∙ has_empty (code_action code)
   where
     none : (k : ℕ) → by_kind {A = ℕ} k 0 0 0 ≡ 0
@@ -216,33 +217,31 @@ masks_in op flag law a b code = pick (eqb (code_kind code) 0) (eqb (code_kind co
 
 -- The codes of two sets as one: those of either.
 pub in_both : (a b : Choice) (code : ℕ) → in_choice (both_of a b) code ≡ (in_choice a code || in_choice b code)
-unfolding in_choice both_of
+unfolding in_choice
 in_both = masks_in joined (λ p q. p || q) has_joined
 
 -- The codes that two sets share: those of both.
 pub in_shared : (a b : Choice) (code : ℕ) → in_choice (shared_by a b) code ≡ (in_choice a code && in_choice b code)
-unfolding in_choice shared_by
+unfolding in_choice
 in_shared = masks_in shared (λ p q. p && q) has_shared
 
 -- The first code that two sets share, or that there is none.
-pub sharing_next : (a b r : Choice) (next : ℕ) → r ≡ shared_by a b → NextIn r 0 next → Sharing a b (ltb next per_fact)
-sharing_next a b r next e n = pick (ltb next per_fact) refl
+pub sharing_first : (a b r : Choice) (next : Option ℕ) → r ≡ shared_by a b → FirstIn r 0 next → Sharing a b (is_some next)
+sharing_first a b r next e = pick next
   where
     in_r : (code : ℕ) → in_choice r code ≡ (in_choice a code && in_choice b code)
     in_r code = ap (λ s. in_choice s code) e ∙ in_shared a b code
 
-    pick : (t : Bool) → ltb next per_fact ≡ t → Sharing a b t
-    pick true t =
-        let h = ltb-true next per_fact t in
-        let m = both (in_choice a next) (in_choice b next) (sym (in_r next) ∙ n.present h) in
-        (next, h, m.0, m.1)
-    pick false t = λ m.
-        false≢true (sym (n.absent m.0 (omega (arith, m.1, ltb-false next per_fact t)) (omega arith)) ∙ in_r m.0 ∙
-        and_both (in_choice a m.0) (in_choice b m.0) m.2 m.3)
+    pick : (next : Option ℕ) → FirstIn r 0 next → Sharing a b (is_some next)
+    pick (Some code) n =
+        let m = both (in_choice a code) (in_choice b code) (sym (in_r code) ∙ n.1.present n.0) in
+        (code, n.0, m.0, m.1)
+    pick None n = λ m.
+        false≢true (sym (n.absent m.0 m.1 (omega arith)) ∙ in_r m.0 ∙ and_both (in_choice a m.0) (in_choice b m.0) m.2 m.3)
 
 -- The codes of a set without another: its own that are not the other's.
 pub in_without : (a b : Choice) (code : ℕ) → in_choice (without_those a b) code ≡ (in_choice a code && not (in_choice b code))
-unfolding in_choice without_those
+unfolding in_choice
 in_without = masks_in removed (λ p q. p && not q) has_removed
 
 pub in_without_cases : (a b : Choice) (code : ℕ) → in_choice (without_those a b) code ≡ true → (in_choice a code ≡ true) × (in_choice b code ≡ false)

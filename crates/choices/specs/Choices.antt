@@ -18,7 +18,7 @@ code_action code = code % per_kind
 abbrev pub code_number : ℕ → ℕ → ℕ
 code_number f code = per_fact * f + code
 
-unfoldable pub nothing : Choice
+abbrev pub nothing : Choice
 nothing = record { deletes = 0; adds = 0; needs = 0 }
 
 -- The repair with this code is in the set.

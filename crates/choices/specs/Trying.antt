@@ -1,5 +1,5 @@
 -- What is done with sets of repairs: one repair more, two sets as one, what two share, a set's codes in turn.
-use Rattle.std.specs.Prelude.{Bool, true, false, ◌≡◌, ℕ, ◌<◌, ◌≤◌, min, ltb}
+use Rattle.std.specs.Prelude.{Bool, true, false, Option, Some, None, ◌≡◌, ℕ, ◌<◌, ◌≤◌, min, ltb}
 use Rattle.facts.specs.Sets.{width, has, joined, shared, removed, only}
 use Rattle.table.specs.Repairs.{by_kind}
 use Rattle.table.specs.Sizes.{per_fact}
@@ -21,7 +21,7 @@ unfoldable pub with_repair : Choice → ℕ → Choice
 with_repair s code = with_mask (code_kind code) (joined (mask_in (code_kind code) s) (only (code_action code))) s
 
 -- The repairs that are in one of the sets or in both.
-unfoldable pub both_of : Choice → Choice → Choice
+abbrev pub both_of : Choice → Choice → Choice
 both_of a b = record {
   deletes = joined a.deletes b.deletes;
   adds = joined a.adds b.adds;
@@ -29,7 +29,7 @@ both_of a b = record {
 }
 
 -- The repairs of the first set that are not in the second.
-unfoldable pub without_those : Choice → Choice → Choice
+abbrev pub without_those : Choice → Choice → Choice
 without_those a b = record {
   deletes = removed a.deletes b.deletes;
   adds = removed a.adds b.adds;
@@ -37,7 +37,7 @@ without_those a b = record {
 }
 
 -- The repairs that are in both sets.
-unfoldable pub shared_by : Choice → Choice → Choice
+abbrev pub shared_by : Choice → Choice → Choice
 shared_by a b = record {
   deletes = shared a.deletes b.deletes;
   adds = shared a.adds b.adds;
@@ -60,6 +60,11 @@ pub record NextIn (s : Choice) (from next : ℕ) : Type 0 where
   pub within : next ≤ per_fact
   pub absent : (code : ℕ) → code < next → from ≤ code → in_choice s code ≡ false
   pub present : next < per_fact → in_choice s next ≡ true
+
+-- That code, or none.
+abbrev pub FirstIn : Choice → ℕ → Option ℕ → Type 0
+FirstIn s from (Some code) = (code < per_fact) × NextIn s from code
+FirstIn s from None = NextIn s from per_fact
 
 -- Have the sets a repair in common?
 abbrev pub Sharing : Choice → Choice → Bool → Type 0

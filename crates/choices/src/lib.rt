@@ -7,7 +7,7 @@ ghost use Rattle.table.specs.Sizes.{kinds, per_kind};
 ghost use Rattle.choices.specs.Choices.{code_of, list_of};
 ghost use Rattle.choices.specs.Choices as choices;
 ghost use Rattle.facts.specs.Sets.{sum_bits};
-ghost use Rattle.choices.specs.Trying.{with_repair, both_of, shared_by, without_those, CodesBelow, NextAction, NextIn, Sharing};
+ghost use Rattle.choices.specs.Trying.{with_repair, both_of, shared_by, without_those, CodesBelow, NextAction, FirstIn, Sharing};
 
 use facts::{below_mask, count, join, lowest, overlap, remove, with_fact};
 use table::repair::Repair;
@@ -20,16 +20,6 @@ pub struct Choice {
     pub needs: u64,
 }
 
-pub fn nothing() -> Choice
-    ensures { result ≡ choices.nothing }
-{
-    Choice {
-        deletes: 0,
-        adds: 0,
-        needs: 0,
-    }
-}
-
 // A repair of a fact is known by its code: what its number has beside the fact's share.
 fn code_of(kind: usize, action: usize) -> usize
     requires kind_lt_kinds { kind < kinds }
@@ -39,68 +29,6 @@ fn code_of(kind: usize, action: usize) -> usize
     Repair::PER_KIND * kind + action
 }
 
-pub fn with_repair(s: Choice, code: usize) -> Choice
-    ensures { result ≡ with_repair s code }
-{
-    let kind = code / Repair::PER_KIND;
-    let action = code % Repair::PER_KIND;
-    let deletes = s.deletes;
-    let adds = s.adds;
-    let needs = s.needs;
-    if kind == Repair::DROP_DELETE {
-        return Choice {
-            deletes: with_fact(deletes, action),
-            adds,
-            needs,
-        };
-    }
-    if kind == Repair::ADD_EFFECT {
-        return Choice {
-            deletes,
-            adds: with_fact(adds, action),
-            needs,
-        };
-    }
-    Choice {
-        deletes,
-        adds,
-        needs: with_fact(needs, action),
-    }
-}
-
-// The repairs that are in one of the sets or in both.
-pub fn joined(a: Choice, b: Choice) -> Choice
-    ensures { result ≡ both_of a b }
-{
-    Choice {
-        deletes: join(a.deletes, b.deletes),
-        adds: join(a.adds, b.adds),
-        needs: join(a.needs, b.needs),
-    }
-}
-
-// The repairs of the first set that are not in the second.
-pub fn without(a: Choice, b: Choice) -> Choice
-    ensures { result ≡ without_those a b }
-{
-    Choice {
-        deletes: remove(a.deletes, b.deletes),
-        adds: remove(a.adds, b.adds),
-        needs: remove(a.needs, b.needs),
-    }
-}
-
-// The repairs that are in both sets.
-pub fn shared(a: Choice, b: Choice) -> Choice
-    ensures { result ≡ shared_by a b }
-{
-    Choice {
-        deletes: overlap(a.deletes, b.deletes),
-        adds: overlap(a.adds, b.adds),
-        needs: overlap(a.needs, b.needs),
-    }
-}
-
 // How many actions are in the set. A mask's higher places name no action.
 fn count_actions(m: u64) -> usize
     ensures { result ≡ sum_bits per_kind m }
@@ -108,34 +36,12 @@ fn count_actions(m: u64) -> usize
     count(overlap(m, below_mask(Repair::PER_KIND)))
 }
 
-// How many repairs the set has: the length of its list, whichever fact it is of.
-pub fn size(s: Choice) -> usize
-    ensures { (f : ℕ) → result ≡ length (list_of f s) }
-{
-    count_actions(s.deletes) + count_actions(s.adds) + count_actions(s.needs)
-}
-
 // How many of a kind's actions a search from the code `from` on passes.
 fn passed(kind: usize, from: usize) -> usize
     requires { kind < kinds }
     ensures { result ≡ from - per_kind * kind }
 {
-    let first = code_of(kind, 0);
-    if first < from { from - first } else { 0 }
-}
-
-// The repairs whose codes are below one.
-pub fn below(code: usize) -> Choice
-    ensures { CodesBelow code result }
-{
-    let deletes = passed(Repair::DROP_DELETE, code);
-    let adds = passed(Repair::ADD_EFFECT, code);
-    let needs = passed(Repair::DROP_NEED, code);
-    Choice {
-        deletes: below_mask(deletes),
-        adds: below_mask(adds),
-        needs: below_mask(needs),
-    }
+    from.saturating_sub(code_of(kind, 0))
 }
 
 // The first action of the set from `skip` on; PER_KIND or more where there is none.
@@ -145,28 +51,148 @@ fn next_action(m: u64, skip: usize) -> usize
     lowest(remove(m, below_mask(skip)))
 }
 
-// The first code of the set at or after one, or PER_FACT.
-pub fn next_in(s: Choice, from: usize) -> usize
-    ensures { NextIn s from result }
-{
-    let deletes = next_action(s.deletes, from);
-    if deletes < Repair::PER_KIND {
-        return deletes;
+impl Choice {
+    pub fn nothing() -> Choice
+        ensures { result ≡ choices.nothing }
+    {
+        Choice {
+            deletes: 0,
+            adds: 0,
+            needs: 0,
+        }
     }
-    let adds = next_action(s.adds, passed(Repair::ADD_EFFECT, from));
-    if adds < Repair::PER_KIND {
-        return code_of(Repair::ADD_EFFECT, adds);
+
+    // The repairs whose codes are below one.
+    pub fn below(code: usize) -> Choice
+        ensures { CodesBelow code result }
+    {
+        let deletes = passed(Repair::DROP_DELETE, code);
+        let adds = passed(Repair::ADD_EFFECT, code);
+        let needs = passed(Repair::DROP_NEED, code);
+        Choice {
+            deletes: below_mask(deletes),
+            adds: below_mask(adds),
+            needs: below_mask(needs),
+        }
     }
-    let needs = next_action(s.needs, passed(Repair::DROP_NEED, from));
-    if needs < Repair::PER_KIND {
-        return code_of(Repair::DROP_NEED, needs);
+
+    pub fn with_repair(self, code: usize) -> Choice
+        ensures { result ≡ with_repair self code }
+    {
+        let kind = code / Repair::PER_KIND;
+        let action = code % Repair::PER_KIND;
+        match kind {
+            Repair::DROP_DELETE => Choice {
+                deletes: with_fact(self.deletes, action),
+                ..self
+            },
+            Repair::ADD_EFFECT => Choice {
+                adds: with_fact(self.adds, action),
+                ..self
+            },
+            _ => Choice {
+                needs: with_fact(self.needs, action),
+                ..self
+            },
+        }
     }
-    Repair::PER_FACT
+
+    // The repairs that are in one of the sets or in both.
+    pub fn joined(self, other: Choice) -> Choice
+        ensures { result ≡ both_of self other }
+    {
+        Choice {
+            deletes: join(self.deletes, other.deletes),
+            adds: join(self.adds, other.adds),
+            needs: join(self.needs, other.needs),
+        }
+    }
+
+    // The repairs of this set that are not in the other.
+    pub fn without(self, other: Choice) -> Choice
+        ensures { result ≡ without_those self other }
+    {
+        Choice {
+            deletes: remove(self.deletes, other.deletes),
+            adds: remove(self.adds, other.adds),
+            needs: remove(self.needs, other.needs),
+        }
+    }
+
+    // The repairs that are in both sets.
+    pub fn shared(self, other: Choice) -> Choice
+        ensures { result ≡ shared_by self other }
+    {
+        Choice {
+            deletes: overlap(self.deletes, other.deletes),
+            adds: overlap(self.adds, other.adds),
+            needs: overlap(self.needs, other.needs),
+        }
+    }
+
+    // How many repairs the set has: the length of its list, whichever fact it is of.
+    pub fn size(self) -> usize
+        ensures { (f : ℕ) → result ≡ length (list_of f self) }
+    {
+        count_actions(self.deletes) + count_actions(self.adds) + count_actions(self.needs)
+    }
+
+    // The first code of the set at or after one.
+    pub fn next_in(self, from: usize) -> Option<usize>
+        ensures { FirstIn self from result }
+    {
+        let deletes = next_action(self.deletes, from);
+        if deletes < Repair::PER_KIND {
+            return Some(deletes);
+        }
+        let adds = next_action(self.adds, passed(Repair::ADD_EFFECT, from));
+        if adds < Repair::PER_KIND {
+            return Some(code_of(Repair::ADD_EFFECT, adds));
+        }
+        let needs = next_action(self.needs, passed(Repair::DROP_NEED, from));
+        if needs < Repair::PER_KIND {
+            return Some(code_of(Repair::DROP_NEED, needs));
+        }
+        None
+    }
+
+    // Have the sets a repair in common?
+    pub fn shares(self, other: Choice) -> bool
+        ensures { Sharing self other result }
+    {
+        self.shared(other).next_in(0).is_some()
+    }
+
+    // The set's codes in turn.
+    pub fn codes(self) -> Codes
+        ensures { result ≡ record { set = self; from = 0 } }
+    {
+        Codes { set: self, from: 0 }
+    }
 }
 
-// Have the sets a repair in common?
-pub fn share(a: Choice, b: Choice) -> bool
-    ensures { Sharing a b result }
-{
-    next_in(shared(a, b), 0) < Repair::PER_FACT
+// The codes of a set from one on, in turn.
+#[derive(Clone, Copy, Drop)]
+pub struct Codes {
+    set: Choice,
+    from: usize,
+}
+
+impl Iterator for Codes {
+    ghost use Rattle.std.specs.Iterator.{at_most};
+    ghost use Rattle.std.specs.Prelude.{◌-◌};
+    ghost use Rattle.table.specs.Sizes.{per_fact};
+    ghost use Rattle.choices.specs.Turns.{Turn};
+
+    type Item = usize;
+
+    ghost next_gives = { Turn };
+
+    ghost remaining = { λ codes. at_most (per_fact - codes.from) };
+
+    fn next(&mut self) -> Option<usize> {
+        let code = self.set.next_in(self.from)?;
+        self.from = code + 1;
+        Some(code)
+    }
 }

@@ -1,14 +1,17 @@
 -- How many facts are in a mask, and which is the lowest: counts as sums of bits, trailing zeros as a place. Proved by halving. Assumes nothing.
-use mathlib.Core.Bool.{true, false, cond}
-use mathlib.Core.Path.{◌≡◌, refl, ap, ◌∙◌}
+use mathlib.Core.Bool.{true, false, cond, true≢false}
+use mathlib.Core.Path.{◌≡◌, refl, sym, ap, ◌∙◌}
 use Prim.Native.Nat.{ℕ, zero, suc, ◌+◌, ◌/◌, ◌%◌, ◌^◌, ◌≤◌, ◌<◌}
-use native.Mathlib.Nat.{le_of_suc-le-suc, not-suc-le-zero, zero-lt-suc, mod-lt}
+use native.Mathlib.Nat.{lt_of_not-le, le_of_suc-le-suc, not-suc-le-zero, zero-lt-suc, mod-lt}
 use native.Mathlib.Omega.{arith}
 use lib.Arith.{bin_ind}
+use lib.Bits.{and_le_r}
 use lib.Count.{ones, ones_step, ones-le, count_trailing_zeros, trailing_of_zero, trailing_le, under}
 use lib.Dec.{eqb}
-use Rattle.facts.specs.Sets.{width, bit, has, count, lowest, sum_bits}
-use Rattle.facts.proofs.Digits.{digit, bit_lt, bit_first, bit_half, has_half}
+use borrow.Author.Tests.{eqb-true}
+use Rattle.facts.specs.Sets.{width, bit, has, only, removed, count, lowest, sum_bits}
+use Rattle.facts.proofs.Digits.{digit, bit_lt, bit_first, bit_half, has_half, removed_half, removed_odd}
+use Rattle.facts.proofs.Laws.{only_in, has_above}
 
 -- ---- the count
 
@@ -95,3 +98,34 @@ lowest_le = trailing_le width
 pub lowest_empty : lowest 0 ≡ width
 unfolding lowest
 lowest_empty = trailing_of_zero width
+
+-- ---- one fact taken out
+
+has_odd : (m : ℕ) → has m 0 ≡ true → m % 2 ≡ 1
+unfolding has
+has_odd m h = sym (bit_first m) ∙ eqb-true (bit m 0) 1 h
+
+removed_none : (m : ℕ) → removed m 0 ≡ m
+unfolding removed
+removed_none m = omega (arith, and_le_r m 0)
+
+-- the count is one less
+ones_without : (f m : ℕ) → has m f ≡ true → ones m ≡ suc (ones (removed m (2 ^ f)))
+ones_without zero m h =
+    let odd = has_odd m h in
+    let half : removed m 1 / 2 ≡ m / 2 = removed_half m 1 ∙ removed_none (m / 2) in
+    let even : removed m 1 % 2 ≡ 0 = omega (arith, removed_odd m 1) in
+    omega (arith, ones_step m, ones_step (removed m 1), ap ones half)
+ones_without (suc f) m h =
+    let even : 2 ^ suc f % 2 ≡ 0 = omega arith in
+    let part : 2 ^ suc f / 2 ≡ 2 ^ f = omega arith in
+    let half : removed m (2 ^ suc f) / 2 ≡ removed (m / 2) (2 ^ f) = removed_half m (2 ^ suc f) ∙ ap (removed (m / 2)) part in
+    let first : removed m (2 ^ suc f) % 2 ≡ m % 2 = omega (arith, removed_odd m (2 ^ suc f)) in
+    omega (arith, ones_step m, ones_step (removed m (2 ^ suc f)), ap ones half, ones_without f (m / 2) (sym (has_half m f) ∙ h))
+
+-- and so it is without the lowest
+pub count_rest : (m : ℕ) → 0 < m → m < 2 ^ width → count m ≡ suc (count (removed m (only (lowest m))))
+unfolding count
+count_rest m p h =
+    let power = only_in (lowest m) (lt_of_not-le (λ l. true≢false (sym (lowest_has m p h) ∙ has_above m width (lowest m) h l))) in
+    ones_without (lowest m) m (lowest_has m p h) ∙ ap (λ (x : ℕ). suc (ones (removed m x))) (sym power)

@@ -1,2 +1,3 @@
 -- What the contracts of `facts` cite.
 pub mod Sets
+pub mod Turns

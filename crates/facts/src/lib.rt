@@ -47,7 +47,7 @@ pub fn single(f: usize) -> u64
 pub fn contains(m: u64, f: usize) -> bool
     ensures { result ≡ sets.has m f }
 {
-    if f < WIDTH { (m >> f) % 2 == 1 } else { false }
+    f < WIDTH && (m >> f) % 2 == 1
 }
 
 // m with f put in; m where a mask has no room for f.
@@ -83,12 +83,46 @@ pub fn is_within(m: u64, n: usize) -> bool
 pub fn count(m: u64) -> usize
     ensures { result ≡ sets.count m }
 {
-    u64::count_ones(m) as usize
+    m.count_ones() as usize
 }
 
 // The lowest fact of m; the width where m is empty.
 pub fn lowest(m: u64) -> usize
     ensures { result ≡ sets.lowest m }
 {
-    u64::trailing_zeros(m) as usize
+    m.trailing_zeros() as usize
+}
+
+// The facts of m in turn, from the lowest on.
+pub fn each(m: u64) -> Facts
+    ensures { result ≡ record { rest = m } }
+{
+    Facts { rest: m }
+}
+
+// The facts of a mask that are still to come.
+#[derive(Clone, Copy, Drop)]
+pub struct Facts {
+    rest: u64,
+}
+
+impl Iterator for Facts {
+    ghost use Rattle.std.specs.Iterator.{at_most};
+    ghost use Rattle.facts.specs.Sets.{count};
+    ghost use Rattle.facts.specs.Turns.{Turn};
+
+    type Item = usize;
+
+    ghost next_gives = { Turn };
+
+    ghost remaining = { λ facts. at_most (count facts.rest) };
+
+    fn next(&mut self) -> Option<usize> {
+        if self.rest == 0 {
+            return None;
+        }
+        let f = lowest(self.rest);
+        self.rest = without_fact(self.rest, f);
+        Some(f)
+    }
 }

@@ -5,14 +5,15 @@ use mathlib.Core.Path.{◌≡◌, ap, ◌∙◌, subst}
 use Prim.Native.Nat.{ℕ, ◌+◌, ◌-◌, ◌*◌, ◌<◌, ◌≤◌}
 use native.Mathlib.Omega.{arith}
 use lib.ListN.{length, take, drop, length-take, length-drop}
+use Rattle.std.specs.Prelude.{Result, Ok}
 use Rattle.addrun.specs.Adding.{run_added, steps_of}
 use Rattle.pddl.specs.Readings.{ReadsProblem}
 use Rattle.pddl.specs.declared.ProblemReply.{ProblemReply}
-use Rattle.table.specs.Refusals.{accepted}
 use Rattle.table.specs.Sizes.{max_runs, max_steps}
 use Rattle.table.specs.Tasks.{count_of}
 use Rattle.table.specs.declared.Task.{Task}
 use Rattle.table.specs.declared.TaskReply.{TaskReply}
+use Rattle.table.specs.declared.refusals.Refusal.{Refusal}
 use Rattle.frompddl.specs.Gathering.{NextRun, Gathers, more}
 use Rattle.frompddl.specs.Splitting.{text_end, text_at, is_text}
 use Rattle.frompddl.specs.declared.gather.Gathered.{Gathered}
@@ -43,8 +44,7 @@ run_added_lem t start goal beside run r end e a =
 
 -- ---- one run more, as a turn of the loop leaves it
 
-pub gathers_more : {s : List ℕ} {beside t : Task} {at n : ℕ} (q : TaskReply) (end : ℕ) → is_text s at ≡ true → n < max_runs
-    → NextRun s beside at n t q → q.number ≡ accepted → end ≡ text_end s at → (r : Gathered)
-    → Gathers s beside r end (n + 1) q.task → Gathers s beside r at n t
-gathers_more {s} {beside} {n = n} q end h low run ok e r g =
-    more q h low run ok (subst (λ (p : ℕ). Gathers s beside r p (n + 1) q.task) e g)
+pub gathers_more : {s : List ℕ} {beside t : Task} {at n : ℕ} (u : Task) (end : ℕ) → is_text s at ≡ true → n < max_runs
+    → NextRun s beside at n t (Ok u) → end ≡ text_end s at → (r : Result Gathered Refusal)
+    → Gathers s beside r end (n + 1) u → Gathers s beside r at n t
+gathers_more {s} {beside} {n = n} u end h low run e r g = more u h low run (subst (λ (p : ℕ). Gathers s beside r p (n + 1) u) e g)

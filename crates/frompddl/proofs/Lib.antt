@@ -4,4 +4,3 @@ pub mod PlaceLaws
 pub mod GatherLaws
 pub mod TogetherLaws
 pub mod WellLaws
-pub mod ReadLaws

@@ -2,32 +2,36 @@
 use mathlib.Core.Bool.{Bool, true, false, cond, ◌&&◌}
 use mathlib.Core.List.{List, ◌++◌}
 use mathlib.Core.Path.{◌≡◌, refl, sym, ap, ◌∙◌, subst}
-use Prim.Native.Nat.{ℕ, ◌+◌, ◌<◌, ◌≤◌}
+use Prim.Native.Nat.{ℕ, ◌<◌, ◌≤◌}
 use native.Mathlib.Omega.{arith}
-use borrow.Author.Tests.{eqb-true, eqb-false}
+use borrow.Author.Tests.{eqb-true}
 use lib.Dec.{eqb}
 use lib.ListN.{length, drop, replicate, length-append}
+use Rattle.std.specs.Prelude.{Result, Ok, Err, IfOk, is_ok}
 use Rattle.addrun.proofs.AddingLaws.{added_well}
 use Rattle.addrun.specs.Adding.{with_run, run_added}
 use Rattle.pddl.specs.Readings.{ReadsDomain, domain, outside}
+use Rattle.table.proofs.AcceptedLaws.{reply_ok}
 use Rattle.table.proofs.FlagLaws.{and_right, cond_by}
 use Rattle.table.proofs.Formation.{well_formed}
-use Rattle.table.specs.Outcomes.{Outcome}
+use Rattle.table.proofs.WhyLaws.{number_some}
+use Rattle.table.specs.Outcomes.{Outcome, reply_of, read_of}
 use Rattle.table.specs.Refusals.{accepted, not_well_formed}
 use Rattle.table.specs.Sizes.{max_actions}
 use Rattle.table.specs.Tasks.{formed, Shaped, WellFormed}
 use Rattle.table.specs.declared.Task.{Task}
 use Rattle.table.specs.declared.TaskReply.{TaskReply}
+use Rattle.table.specs.declared.refusals.Refusal.{Refusal}
 use Rattle.taskformat.proofs.AcceptedIsFile.{accepted_file}
 use Rattle.taskformat.proofs.FileLength.{file_length}
 use Rattle.taskformat.specs.Format.{file_of}
 use Rattle.taskformat.specs.Lengths.{program_room}
-use Rattle.taskformat.specs.Reading.{accepted_read, refused_read}
+use Rattle.taskformat.specs.Reading.{ReadsFile, accepted_read, refused_read}
 use Rattle.taskwriter.proofs.WritingLaws.{written_file}
 use Rattle.taskwriter.specs.Writing.{written}
 use Rattle.frompddl.specs.Gathering as gathering
 use Rattle.frompddl.specs.Gathering.{NextRun, Gathers, last, ninth, wrong, more}
-use Rattle.frompddl.specs.Together.{unless, answer_of, PutsTogether, HoldsFile}
+use Rattle.frompddl.specs.Together.{TextsCome, answer_of, PutsTogether, HoldsFile}
 use Rattle.frompddl.specs.declared.gather.Gathered.{Gathered}
 
 -- ---- a task with its runs so far: it has no lock (02, request 6), and as soon as it has a run, it is well formed
@@ -66,28 +70,26 @@ domain_sound (domain t fits text e) ok =
     })
 domain_sound (outside n none far e) ok = absurd (omega (arith, ap (λ (r : TaskReply). r.number) e))
 
-next_sound : {s : List ℕ} {beside t : Task} {at n : ℕ} {q : TaskReply} → NextRun s beside at n t q → q.number ≡ accepted → Sound t
-    → Sound q.task
-next_sound (gathering.outside p reads bad e) ok g = absurd (bad (sym (ap (λ (q : TaskReply). q.number) e) ∙ ok))
-next_sound {t = t} (gathering.read p reads fine e) ok g =
-    subst (λ (q : TaskReply). Sound q.task) (sym e) (added_sound t p.start p.goal _ g)
+next_sound : {s : List ℕ} {beside t : Task} {at n : ℕ} {q : Result Task Refusal} → NextRun s beside at n t q → Sound t → IfOk q Sound
+next_sound (gathering.outside e reads is) g = subst (λ (q : Result Task Refusal). IfOk q Sound) (sym is) tt
+next_sound {t = t} (gathering.read p reads is) g =
+    subst (λ (q : Result Task Refusal). IfOk q Sound) (sym is) (added_sound t p.start p.goal _ g)
 
-gathers_sound : {s : List ℕ} {beside : Task} {r : Gathered} {at n : ℕ} {t : Task} → Gathers s beside r at n t → r.number ≡ accepted → Sound t
-    → Sound r.task
-gathers_sound (last h e) ok g = subst (λ (r : Gathered). Sound r.task) (sym e) g
-gathers_sound (ninth h many e) ok g = absurd (omega (arith, ap (λ (r : Gathered). r.number) e))
-gathers_sound (wrong q h low run bad e) ok g = absurd (bad (sym (ap (λ (r : Gathered). r.number) e) ∙ ok))
-gathers_sound (more q h low run fine rest) ok g = gathers_sound rest ok (next_sound run fine g)
+abbrev Sounds : Result Gathered Refusal → Type 0
+Sounds r = IfOk r (λ runs. Sound runs.task)
+
+gathers_sound : {s : List ℕ} {beside : Task} {r : Result Gathered Refusal} {at n : ℕ} {t : Task} → Gathers s beside r at n t → Sound t → Sounds r
+gathers_sound (last h is) g = subst Sounds (sym is) g
+gathers_sound (ninth h many is) g = subst Sounds (sym is) tt
+gathers_sound (wrong e h low run is) g = subst Sounds (sym is) tt
+gathers_sound (more u h low run rest) g = gathers_sound rest (next_sound run g)
+
+texts_sound : {domain_text : List ℕ} {limit : ℕ} (s : List ℕ) (beside : Task) (first : ℕ) (domain : Result Task Refusal)
+    (runs : Result Gathered Refusal) → ReadsDomain domain_text limit (read_of domain) → TextsCome s beside first domain runs → Sounds runs
+texts_sound s beside first (Ok t) runs reads come = gathers_sound come (domain_sound reads refl)
+texts_sound s beside first (Err e) runs reads come = subst Sounds (sym come) tt
 
 -- ---- the answer, where it is accepted
-
-module _ (number place : ℕ) (rest : TaskReply) where
-  not_refused : (unless number place rest).number ≡ accepted → (number ≡ accepted) × (unless number place rest ≡ rest)
-  not_refused ok = pick (eqb number accepted) refl
-    where
-      pick : (b : Bool) → eqb number accepted ≡ b → (number ≡ accepted) × (unless number place rest ≡ rest)
-      pick true h = (eqb-true number accepted h, rw h refl)
-      pick false h = absurd (eqb-false number accepted h (rw h at ok))
 
 matched_task : (b : Bool) (t : Task)
     → (cond {A = TaskReply} b (accepted_read t) (refused_read not_well_formed 0)).number ≡ accepted
@@ -95,23 +97,22 @@ matched_task : (b : Bool) (t : Task)
 matched_task true t ok = (refl, refl)
 matched_task false t ok = absurd (omega arith)
 
-puts_sound : {s : List ℕ} {r : TaskReply} → PutsTogether s r → r.number ≡ accepted → Sound r.task × (0 < r.task.runs.many)
-unfolding answer_of
-puts_sound {s} {r} p ok =
-    let runs = p.runs in
-    let many = p.file.task.runs.many in
-    let start = ap (λ (q : TaskReply). q.number) p.answer in
-    let d = not_refused p.domain.number p.domain.place _ (sym start ∙ ok) in
-    let g = not_refused runs.number runs.place _ (sym (ap (λ (q : TaskReply). q.number) d.1) ∙ sym start ∙ ok) in
-    let f = not_refused p.file.number (p.start + p.file.place) _
-    (sym (ap (λ (q : TaskReply). q.number) (d.1 ∙ g.1)) ∙ sym start ∙ ok) in
-    let m = matched_task (eqb runs.texts many && eqb runs.task.runs.many many) runs.task
-    (sym (ap (λ (q : TaskReply). q.number) (d.1 ∙ g.1 ∙ f.1)) ∙ sym start ∙ ok) in
-    let sound = gathers_sound p.gathers g.0 (domain_sound p.domain_read d.0) in
+answer_sound : {behind : List ℕ} (runs : Result Gathered Refusal) (file : Result Task Refusal) (start : ℕ) → Sounds runs
+    → ReadsFile behind (read_of file) → (answer_of runs file start).number ≡ accepted
+    → Sound (answer_of runs file start).task × (0 < (answer_of runs file start).task.runs.many)
+answer_sound (Err e) file start sound reads ok = absurd (number_some e.why ok)
+answer_sound (Ok runs) (Err e) start sound reads ok = absurd (number_some e.why ok)
+answer_sound (Ok runs) (Ok t) start sound reads ok =
+    let many = t.runs.many in
+    let m = matched_task (eqb runs.texts many && eqb runs.task.runs.many many) runs.task ok in
     let same = eqb-true runs.task.runs.many many (and_right (eqb runs.texts many) (eqb runs.task.runs.many many) m.0) in
-    let file = (accepted_file p.file_read f.0).0 in
-    let is = ap (λ (q : TaskReply). q.task) (p.answer ∙ d.1 ∙ g.1 ∙ f.1 ∙ m.1) in
-    subst (λ (t : Task). Sound t × (0 < t.runs.many)) (sym is) (sound, omega (arith, same, file.many_low))
+    let file = (accepted_file reads refl).0 in
+    subst (λ (r : TaskReply). Sound r.task × (0 < r.task.runs.many)) (sym m.1) (sound, omega (arith, same, file.many_low))
+
+puts_sound : {s : List ℕ} {r : TaskReply} → PutsTogether s r → r.number ≡ accepted → Sound r.task × (0 < r.task.runs.many)
+puts_sound p ok =
+    subst (λ (r : TaskReply). Sound r.task × (0 < r.task.runs.many)) (sym p.answer)
+    (answer_sound p.runs p.file p.start (texts_sound _ _ _ p.domain p.runs p.domain_read p.come) p.file_read (sym (ap (λ (r : TaskReply). r.number) p.answer) ∙ ok))
 
 pub puts_well : {s : List ℕ} {r : TaskReply} → PutsTogether s r → r.number ≡ accepted → WellFormed r.task
 puts_well p ok = let sound = puts_sound p ok in sound.0.well sound.1
@@ -121,6 +122,11 @@ pub puts_no_lock : {s : List ℕ} {r : TaskReply} → PutsTogether s r → r.num
 puts_no_lock p ok = (puts_sound p ok).0.no_lock
 
 -- ---- its file in the room
+
+pub written_ok : (t : Task) (room after : List ℕ) (r : Result ℕ Refusal) → WellFormed t → program_room ≤ length room
+    → ◌≡◌ {A = Outcome} (record { reply = reply_of r; room = after }) (written t room) → is_ok r ≡ true
+written_ok t room after r w fits e =
+    reply_ok r (ap (λ (p : Outcome). p.reply.number) (e ∙ written_file t room (well_formed t w) (omega (arith, file_length t w))))
 
 pub holds_file : (t : Task) (room : List ℕ) (o : Outcome) → WellFormed t → program_room ≤ length room → o ≡ written t room
     → HoldsFile t room o.reply.length o.room

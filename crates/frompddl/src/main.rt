@@ -8,14 +8,13 @@ mod gather;
 mod split;
 mod together;
 
-ghost use Rattle.std.specs.Prelude.{take, length, ◌≡◌, ◌≤◌, IfOk, IfSome};
 ghost use Rattle.table.specs.Tasks.{WellFormed};
 ghost use Rattle.frompddl.specs.Together.{HoldsFile};
 
 use pddlwriter::{LONGEST_DOMAIN, LONGEST_PROBLEM};
 use std::io;
-use std::io::Read;
-use table::refusals::ACCEPTED;
+use stdio::{complain, read_full};
+use table::refusals::Refusal;
 use table::{RUNS, Task};
 use taskfile::MOST_INPUT;
 use together::put_together;
@@ -23,25 +22,8 @@ use together::put_together;
 // How much is looked at: the longest texts, and as much of the task file as zernoplysk reads.
 const MOST_BYTES: usize = LONGEST_DOMAIN + RUNS * LONGEST_PROBLEM + MOST_INPUT;
 
-// Reads until the buffer is full or the input ends, and returns how many bytes it put at the start of the buffer: of the bytes that
-// stood there, all that the buffer has room for.
-fn read_full<R: Read>(input: &mut R, buffer: &mut [u8]) -> io::Result<usize>
-    ensures within { IfOk result (λ n. n ≤ length buffer.new) }
-    ensures bytes { IfOk result (λ n. IfSome (R.remaining input.old) (λ s. take n buffer.new ≡ take (length buffer.new) s)) }
-{
-    let mut got = 0;
-    while got < buffer.len() {
-        let more = input.read(&mut buffer[got..])?;
-        if more == 0 {
-            break;
-        }
-        got += more;
-    }
-    Ok(got)
-}
-
-fn print_refusal(rt: &impl Print, number: usize, place: usize) -> io::Result<()> {
-    println!(rt; "refused {number} {place}")
+fn print_refusal(rt: &impl Print, refusal: Refusal) -> io::Result<()> {
+    println!(rt; "refused {} {}", refusal.why.number(), refusal.place)
 }
 
 // How many bytes of the room are the task's file: never is it too short.
@@ -49,8 +31,7 @@ fn whole_file(task: Task, room: &mut [u8; MOST_INPUT]) -> usize
     requires { WellFormed task }
     ensures { HoldsFile task room.old result room.new }
 {
-    let told = taskwriter::write(task, room);
-    told.length
+    taskwriter::write(task, room).unwrap()
 }
 
 fn print_file(rt: &impl Print, task: Task) -> io::Result<()>
@@ -62,16 +43,10 @@ fn print_file(rt: &impl Print, task: Task) -> io::Result<()>
 }
 
 fn print_answer(rt: &impl Print, input: &[u8]) -> io::Result<()> {
-    let told = put_together(input);
-    if told.number != ACCEPTED {
-        return print_refusal(rt, told.number, told.place);
+    match put_together(input) {
+        Ok(task) => print_file(rt, task),
+        Err(refusal) => print_refusal(rt, refusal),
     }
-    print_file(rt, told.task)
-}
-
-// Says on standard error what went wrong. There is nowhere to say that this can't be written.
-fn complain(rt: &impl Eprint, line: &str) {
-    let _ = rt.eprintln(line);
 }
 
 fn main(rt: HostRuntime) {

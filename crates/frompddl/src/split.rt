@@ -6,35 +6,24 @@ ghost use Rattle.frompddl.specs.Splitting.{closing, text_end, is_text, TextsEnd}
 fn closes(s: &[u8], at: usize) -> bool
     ensures { result ≡ closing s.now at }
 {
-    if s.len() <= at {
-        return false;
-    }
-    if s.len() - at < 3 {
-        return false;
-    }
-    (s[at] == b'\n') & (s[at + 1] == b')') & (s[at + 2] == b'\n')
+    at < s.len() && s[at..].starts_with(b"\n)\n")
 }
 
 // The place behind the text that begins here.
 pub(crate) fn text_end(s: &[u8], from: usize) -> usize
     ensures { result ≡ text_end s.now from }
 {
-    for at in from..s.len() {
-        if closes(s, at) {
-            return at + 3;
-        }
+    match (from..s.len()).find(|&at| closes(s, at)) {
+        Some(at) => at + 3,
+        None => s.len(),
     }
-    s.len()
 }
 
 // A text begins here, and not the task file.
 pub(crate) fn is_text(s: &[u8], at: usize) -> bool
     ensures { result ≡ is_text s.now at }
 {
-    if s.len() <= at {
-        return false;
-    }
-    s[at] == b'('
+    at < s.len() && s[at] == b'('
 }
 
 // The place behind the last text. The first is that of the domain, whatever it begins with.

@@ -1,58 +1,31 @@
 // The task that the texts and the task file behind them say together.
-ghost use Rattle.std.specs.Prelude.{◌≡◌};
-ghost use Rattle.taskformat.specs.Reading.{refused_read};
-ghost use Rattle.frompddl.specs.Together.{answer_of, PutsTogether};
+ghost use Rattle.table.specs.Outcomes.{read_of};
+ghost use Rattle.frompddl.specs.Together.{PutsTogether};
 
-use crate::gather::{Gathered, gather};
+use crate::gather::gather;
 use crate::split::{file_start, text_end};
 use pddlreader::read_domain;
-use table::TaskReply;
-use table::refusals::{ACCEPTED, NOT_WELL_FORMED};
+use table::refusals::{Refusal, Why};
+use table::{Task, no_task};
 
-fn refused(number: usize, place: usize) -> TaskReply
-    ensures { result ≡ refused_read number place }
-{
-    let task = taskfile::no_task();
-    TaskReply {
-        number,
-        place,
-        task,
-    }
-}
-
-// The first refusal in the order of the input; then 12, where there is not one run for each run of the task file; else the task.
-fn answer(domain: TaskReply, runs: Gathered, file: TaskReply, place: usize) -> TaskReply
-    ensures { result ≡ answer_of domain runs file place }
-{
-    if domain.number != ACCEPTED {
-        return refused(domain.number, domain.place);
-    }
-    if runs.number != ACCEPTED {
-        return refused(runs.number, runs.place);
-    }
-    if file.number != ACCEPTED {
-        return refused(file.number, place);
-    }
-    let task = runs.task;
-    let many = file.task.runs.many;
-    if (runs.texts == many) & (task.runs.many == many) {
-        return TaskReply {
-            number: ACCEPTED,
-            place: 0,
-            task,
-        };
-    }
-    refused(NOT_WELL_FORMED, 0)
-}
-
-pub(crate) fn put_together(s: &[u8]) -> TaskReply
-    ensures { PutsTogether s.now result }
+// The first refusal in the order of the input: of the domain text, of the problem texts, of the task file; then 12, where there is not one run
+// for each run of the task file. Where the task file is refused, what stands beside the texts is a task of zeros.
+pub(crate) fn put_together(s: &[u8]) -> Result<Task, Refusal>
+    ensures { PutsTogether s.now (read_of result) }
 {
     let start = file_start(s);
     let file = taskfile::read(&s[start..]);
-    let beside = file.task;
+    let beside = file.unwrap_or(no_task());
     let first = text_end(s, 0);
-    let domain = read_domain(&s[..first], beside.table.limit);
-    let runs = gather(s, first, beside, domain.task);
-    answer(domain, runs, file, start + file.place)
+    let domain = read_domain(&s[..first], beside.table.limit)?;
+    let runs = gather(s, first, beside, domain)?;
+    if let Err(refusal) = file {
+        return Err(refusal.why.at(start + refusal.place));
+    }
+    let many = beside.runs.many;
+    if (runs.texts == many) & (runs.task.runs.many == many) {
+        Ok(runs.task)
+    } else {
+        Err(Why::NotWellFormed.at(0))
+    }
 }

@@ -3,14 +3,14 @@ use mathlib.Core.List.{List}
 use Prim.Native.Nat.{ℕ}
 use Rattle.table.proofs.ContractLaws.{call_keeps}
 use Rattle.table.specs.Asks.{Call, AsksNothing}
-use Rattle.table.specs.Outcomes.{Outcome}
+use Rattle.table.specs.Outcomes.{Outcome, reply_of}
 use Rattle.listing.proofs.listing.Reads as listing
 use Rattle.listing.specs.Listing.{ListsInto}
 
 -- The listing of an input into this room gives o.
 abbrev pub ListingGives : List ℕ → List ℕ → Outcome → Type 0
 ListingGives input room o =
-    Call {I = List ℕ × List ℕ} {O = Outcome} listing.Post (λ a. (a.0.now, a.1.0.now)) (λ r b. record { reply = r; room = b.1.0.now })
+    Call {I = List ℕ × List ℕ} {O = Outcome} listing.Post (λ a. (a.0.now, a.1.0.now)) (λ r b. record { reply = reply_of r; room = b.1.0.now })
     (input, room) o
 
 pub listing_gives : (input room : List ℕ) (o : Outcome) → ListingGives input room o → ListsInto input room o

@@ -1,16 +1,20 @@
 -- The listing of an input is one text, which fits in `longest_text`; and what is told of it into lent room is one outcome.
 -- Assumes nothing.
+use mathlib.Core.Bool.{true}
 use mathlib.Core.List.{List, [], ◌∷◌}
 use mathlib.Core.Path.{◌≡◌, sym, ap, ◌∙◌, subst}
 use Prim.Native.Nat.{ℕ, zero, suc, ◌≤◌, zero-le}
 use native.Mathlib.Omega.{arith}
-use Rattle.table.proofs.OutcomeLaws.{given_fits}
 use lib.ListN.{length, take}
+use Rattle.std.specs.Prelude.{Result, is_ok}
+use Rattle.table.proofs.AcceptedLaws.{reply_ok}
+use Rattle.table.proofs.OutcomeLaws.{given_fits}
 use Rattle.runcheck.specs.OpenNeeds.{checked}
 use Rattle.solve.specs.Solving.{Solves}
-use Rattle.table.specs.Outcomes.{Outcome, answered, given}
+use Rattle.table.specs.Outcomes.{Outcome, answered, given, reply_of}
 use Rattle.solve.proofs.SolveLaws.{solve_unique}
 use Rattle.table.specs.declared.TaskReply.{TaskReply}
+use Rattle.table.specs.declared.refusals.Refusal.{Refusal}
 use Rattle.taskformat.proofs.Unique.{reads_unique}
 use Rattle.text.specs.Text.{text_of, longest_text}
 use Rattle.listing.specs.Listing.{answer_room, Lists, ListsInto}
@@ -48,3 +52,7 @@ pub always_listed : {input room : List ℕ} {o : Outcome} → longest_text ≤ l
 always_listed {input} {room} h a =
     let fits = text_fits a.lists in
     a.outcome ∙ given_fits a.text room (omega arith)
+
+pub listed_ok : {input room after : List ℕ} (r : Result ℕ Refusal) → longest_text ≤ length room
+    → ListsInto input room (record { reply = reply_of r; room = after }) → is_ok r ≡ true
+listed_ok r h a = reply_ok r (ap (λ (o : Outcome). o.reply.number) (always_listed h a))

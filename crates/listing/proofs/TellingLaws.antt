@@ -12,9 +12,7 @@ use Rattle.table.specs.Tasks.{formed, WellFormed}
 use Rattle.table.specs.declared.Task.{Task}
 use Rattle.table.specs.declared.TaskReply.{TaskReply}
 use Rattle.table.specs.Outcomes.{Outcome, given}
-use Rattle.table.proofs.OutcomeLaws.{given_whole, given_within}
-use Rattle.room.specs.Placing.{Placed}
-use Rattle.room.proofs.PlacingLaws.{placed_whole}
+use Rattle.table.proofs.OutcomeLaws.{given_within}
 use Rattle.runcheck.specs.OpenNeeds.{checked}
 use Rattle.runcheck.specs.declared.Checked.{Checked}
 use Rattle.solve.specs.Solving.{told, Solves}
@@ -23,11 +21,6 @@ use Rattle.taskformat.proofs.AcceptedIsFile.{accepted_file}
 use Rattle.text.specs.Text.{check_in, text_of}
 use Rattle.text.proofs.TextLaws.{text_same}
 use Rattle.listing.specs.Listing.{answer_room, ChecksRuns, ListsInto}
-
--- What was placed whole is given.
-pub told_whole : (text room after : List ℕ) (next : ℕ) → Placed room after 0 next text → length text ≤ length room
-    → ◌≡◌ {A = Outcome} (record { reply = record { number = accepted; place = 0; length = next }; room = after }) (given text room)
-told_whole text room after next p h = given_whole text room after next h (omega (arith, p.next_is)) (placed_whole p h)
 
 -- What is told to have been written lies in the room.
 pub solved_fits : {t : Task} {room : List ℕ} {o : Outcome} → Solves t room o → o.reply.length ≤ length room

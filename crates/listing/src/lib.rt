@@ -4,14 +4,15 @@
 
 ghost use Rattle.std.specs.Prelude.{◌≡◌, ◌≤◌, length};
 ghost use Rattle.table.specs.Sizes.{max_limit, max_runs};
-ghost use Rattle.table.specs.Outcomes.{Outcome, given};
+ghost use Rattle.table.specs.Outcomes.{Outcome, given, reply_of};
 ghost use Rattle.table.specs.Refusals.{accepted};
 ghost use Rattle.table.specs.Tasks.{WellFormed};
 ghost use Rattle.text.specs.Text.{check_in, text_of, longest_text};
 ghost use Rattle.listing.specs.Listing.{ChecksRuns, ListsInto};
 
+use room::give;
 use runcheck::Checked;
-use table::refusals::{ACCEPTED, ROOM_TOO_SHORT};
+use table::refusals::Refusal;
 use table::{LIMIT, RUNS, Reply, Task, TaskReply};
 use text::lines::whole;
 
@@ -30,23 +31,11 @@ fn check_runs(task: Task) -> [Checked; RUNS]
     requires { task.runs.many ≤ max_runs }
     ensures { ChecksRuns task result }
 {
-    let first = runcheck::check_run(task, 0);
-    let mut checks = [first; RUNS];
+    let mut checks = [Checked::from(runcheck::check_run(task, 0)); RUNS];
     for run in 1..task.runs.many {
-        checks[run] = runcheck::check_run(task, run);
+        checks[run] = Checked::from(runcheck::check_run(task, run));
     }
     checks
-}
-
-// How long the text is: written where there is next to no room, it is only counted.
-fn length_of(read: TaskReply, checks: [Checked; RUNS], solved: Reply, list: &[u16]) -> usize
-    requires well_formed { read.number ≡ accepted → WellFormed read.task }
-    requires length_in_bounds { solved.length ≤ length list.now }
-    requires list_len_bound { length list.now ≤ max_limit }
-    ensures { result ≡ length (text_of read (check_in checks) (record { reply = solved; room = list.now })) }
-{
-    let mut scrap = [0u8; 1];
-    whole(read, checks, solved, list, &mut scrap)
 }
 
 // The text into the lent room, from its first place on and nothing beside; or 11, and nothing written.
@@ -56,32 +45,23 @@ fn tell(
     solved: Reply,
     list: &[u16],
     room: &mut [u8],
-) -> Reply
+) -> Result<usize, Refusal>
     requires well_formed { read.number ≡ accepted → WellFormed read.task }
     requires length_in_bounds { solved.length ≤ length list.now }
     requires list_len_bound { length list.now ≤ max_limit }
-    ensures { ◌≡◌ {A = Outcome} (record { reply = result; room = room.new })
+    ensures { ◌≡◌ {A = Outcome} (record { reply = reply_of result; room = room.new })
         (given (text_of read (check_in checks) (record { reply = solved; room = list.now })) room.old) }
 {
-    if room.len() < length_of(read, checks, solved, list) {
-        return table::refusal(ROOM_TOO_SHORT);
-    }
-    let end = whole(read, checks, solved, list, room);
-    Reply {
-        number: ACCEPTED,
-        place: 0,
-        length: end,
-    }
+    give(|room| whole(read, checks, solved, list, room), room)
 }
 
 // The listing of any bytes. A refused file's task is of zeros, and nothing of it is shown.
-pub fn listing(input: &[u8], room: &mut [u8]) -> Reply
-    ensures { ListsInto input.now room.old (record { reply = result; room = room.new }) }
+pub fn listing(input: &[u8], room: &mut [u8]) -> Result<usize, Refusal>
+    ensures { ListsInto input.now room.old (record { reply = reply_of result; room = room.new }) }
 {
-    let read = taskfile::read(input);
-    let task = read.task;
-    let checks = check_runs(task);
+    let read = TaskReply::from(taskfile::read(input));
+    let checks = check_runs(read.task);
     let mut list = [0u16; LIMIT];
-    let solved = solve::solve(task, &mut list);
+    let solved = Reply::from(solve::solve(read.task, &mut list));
     tell(read, checks, solved, &list, room)
 }

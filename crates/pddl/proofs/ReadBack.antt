@@ -6,7 +6,7 @@ use mathlib.Core.Path.{◌≡◌, refl, sym, ap, ◌∙◌}
 use Prim.Native.Nat.{ℕ, ◌<◌, ◌≤◌}
 use native.Mathlib.Omega.{arith}
 use lib.ListN.{length, replicate}
-use Rattle.table.specs.Refusals.{accepted}
+use Rattle.table.specs.Refusals.{accepted, not_the_layout}
 use Rattle.table.specs.Sizes.{max_facts, max_actions}
 use Rattle.table.specs.Tasks.{WellFormed, start_of, goal_of, unlocked}
 use Rattle.table.specs.declared.Table.{Table}
@@ -18,7 +18,7 @@ use Rattle.layout.specs.Layouts.{Says}
 use Rattle.layout.proofs.Exact.{said_once}
 use Rattle.layout.proofs.Places.{longest_once, same_longest, cut_longest, tail_longest, no_longer}
 use Rattle.pddl.specs.Texts.{domain_text, problem_text}
-use Rattle.pddl.specs.Readings.{not_the_layout, Domain, IsDomain, without_runs, ReadsDomain, domain, Problem, IsProblem, refused_problem, accepted_problem, ReadsProblem, no_size, problem}
+use Rattle.pddl.specs.Readings.{Domain, IsDomain, without_runs, ReadsDomain, domain, Problem, IsProblem, refused_problem, accepted_problem, ReadsProblem, no_size, problem}
 use Rattle.pddl.specs.Readings as readings
 use Rattle.pddl.specs.Trees.{domain_tree, problem_tree, a_run}
 use Rattle.pddl.specs.declared.ProblemReply.{ProblemReply}

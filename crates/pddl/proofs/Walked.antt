@@ -12,7 +12,8 @@ use Rattle.layout.specs.Walking.{walk, reads, stops}
 use Rattle.layout.proofs.Exact.{walk_reads, walk_stops, walk_never}
 use Rattle.layout.proofs.Places.{same_longest}
 use Rattle.pddl.specs.Texts.{problem_text}
-use Rattle.pddl.specs.Readings.{not_the_layout, IsDomain, without_runs, ReadsDomain, domain, Problem, IsProblem, refused_problem, accepted_problem, ReadsProblem, problem}
+use Rattle.table.specs.Refusals.{not_the_layout}
+use Rattle.pddl.specs.Readings.{IsDomain, without_runs, ReadsDomain, domain, Problem, IsProblem, refused_problem, accepted_problem, ReadsProblem, problem}
 use Rattle.pddl.specs.Readings as readings
 use Rattle.pddl.specs.Trees.{Said, a_table, a_run, domain_tree, problem_tree}
 use Rattle.pddl.proofs.DomainTexts.{domain_said, domain_made}

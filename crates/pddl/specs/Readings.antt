@@ -1,23 +1,20 @@
 -- What reading a text gives, for every text: 02, request 4, "A reader for exactly that layout gives the actions, starts, goals and sizes back.
 -- Anything else is refused, at the length of the longest beginning that it shares with some text of the layout (for a problem, some problem
 -- over the domain's sizes)." 02, request 6: "the PDDL texts don't carry locks", so what comes back has none.
-use Rattle.std.specs.Prelude.{false, List, ◌⊎◌, ◌≡◌, ℕ, ◌<◌, ◌≤◌, length}
+use Rattle.std.specs.Prelude.{Result, Ok, Err, false, List, ◌⊎◌, ◌≡◌, ℕ, ◌<◌, ◌≤◌, length}
 use Rattle.facts.specs.Sets.{has}
-use Rattle.table.specs.Refusals.{accepted, size_outside}
+use Rattle.table.specs.Refusals.{accepted, size_outside, not_the_layout, number_of}
 use Rattle.table.specs.Sizes.{max_facts, max_actions}
-use Rattle.table.specs.Tasks.{mask_of, unlocked}
-use Rattle.table.specs.declared.Runs.{Runs}
+use Rattle.table.specs.Tasks.{mask_of, unlocked, no_runs}
 use Rattle.table.specs.declared.Table.{Table}
 use Rattle.table.specs.declared.Task.{Task}
 use Rattle.table.specs.declared.TaskReply.{TaskReply}
-use Rattle.taskformat.specs.Reading.{no_task, refused_read, accepted_read}
+use Rattle.table.specs.declared.refusals.Refusal.{Refusal}
+use Rattle.taskformat.specs.Reading.{refused_read, accepted_read}
 use Rattle.layout.specs.Beginnings.{Longest}
 use Rattle.pddl.specs.Texts.{domain_text, problem_text}
 use Rattle.pddl.specs.declared.ProblemReply.{ProblemReply}
-
--- 02, request 4: "17 for a text outside the layout".
-abbrev pub not_the_layout : ℕ
-not_the_layout = 17
+use Rattle.pddl.specs.declared.RunEnds.{RunEnds}
 
 -- ---- the domain
 
@@ -41,9 +38,6 @@ pub record IsDomain (limit : ℕ) (s : List ℕ) : Type 0 where
   pub text : s ≡ domain_text table
 
 -- The table as a task that has no run yet.
-abbrev pub no_runs : Runs
-no_runs = no_task.runs
-
 abbrev pub without_runs : Table → Task
 without_runs t = record { table = t; runs = no_runs }
 
@@ -70,6 +64,11 @@ refused_problem n p = record { number = n; place = p; start = 0; goal = 0 }
 
 abbrev pub accepted_problem : ℕ → ℕ → ProblemReply
 accepted_problem start goal = record { number = accepted; place = 0; start = start; goal = goal }
+
+-- What the code answers, in 01's numbers.
+abbrev pub problem_told : Result RunEnds Refusal → ProblemReply
+problem_told (Ok ends) = accepted_problem ends.start ends.goal
+problem_told (Err e) = refused_problem (number_of e.why) e.place
 
 -- r is what reading s as a problem over so many facts gives; "4 at 0 if the F given to the problem reader is out of range" comes first.
 pub data ReadsProblem (s : List ℕ) (facts : ℕ) (r : ProblemReply) : Type 0 where

@@ -13,10 +13,10 @@ use Rattle.pddl.specs.Texts.{fact_line, delete_line, action_head, effect_opening
 use Rattle.pddl.specs.Trees.{Said, a_table, set_tree, action_tree, table_tree, actions_from, no_sets, first_action}
 use Rattle.pddlreader.specs.Cursors.{walk_from, tried, had_to_stand}
 use Rattle.pddlreader.specs.Walks.{ReadsSet, ReadsAction}
-use Rattle.pddlreader.specs.declared.actions.ActionRead.{ActionRead}
+use Rattle.pddlreader.specs.Walks.{ActionRead}
 use Rattle.pddlreader.specs.declared.cursor.Cursor.{Cursor}
-use Rattle.pddlreader.specs.declared.cursor.Tried.{Tried}
-use Rattle.pddlreader.specs.declared.lines.SetRead.{SetRead}
+use Rattle.pddlreader.specs.Cursors.{Tried}
+use Rattle.pddlreader.specs.Walks.{SetRead}
 use Rattle.pddlreader.proofs.WalkLaws.{walk_word, walk_stands, walk_missing}
 
 -- The parts of an action, one after another.

@@ -24,5 +24,5 @@ module _ (s : List ℕ) (good : Bool) (at far : ℕ) (w : List ℕ) where
     pub not_taken : (n ≡ length w → ⊥) → Tells s (place good at far) w false (place good at later)
     not_taken h = rw (farther, sound, ne_eqb (reach s at w) (length w) (λ e. h (stands ∙ e)), stands)
 
-    pub word_taken : n ≡ length w → Tells s (place good at far) w true (place true (at + n) later)
+    pub word_taken : n ≡ length w → Tells s (place good at far) w true (place good (at + n) later)
     word_taken h = rw (farther, sound, stands, eq-eqb (reach s at w) (length w) (sym stands ∙ h), sym stands ∙ h)

@@ -1,59 +1,59 @@
--- How far a text goes with a word, byte by byte, as the code compares them. Assumes nothing.
-use mathlib.Core.List.{List, ◌∷◌}
-use mathlib.Core.Path.{◌≡◌}
-use Prim.Native.Nat.{ℕ, suc, ◌+◌, ◌-◌, ◌≤◌, ◌<◌}
-use native.Mathlib.Numerals.{add-one}
+-- How far a text goes with a word, as the code compares them: up to the first place where two bytes differ, or to where one of both ends.
+-- Assumes nothing.
+use mathlib.Core.Bool.{Bool, true, false, cond, not}
+use mathlib.Core.List.{List, [], ◌∷◌}
+use mathlib.Core.Logic.{◌⊎◌, inl, inr}
+use mathlib.Core.Path.{◌≡◌, refl, sym, ◌∙◌}
+use Prim.Native.Nat.{ℕ, suc, ◌+◌, ◌-◌, ◌≤◌, ◌<◌, min}
 use native.Mathlib.Omega.{arith}
-use borrow.Author.Tests.{eq-eqb, ne_eqb}
-use lib.ListN.{length, get_or, drop, length-drop}
-use lib.Seq.{drop-cons}
+use denote.Ref.{Bor}
+use borrow.Author.Tests.{ltb-false}
+use lib.Dec.{eqb, ltb}
+use lib.ListN.{length, drop, length-drop}
+use Rattle.std.specs.Prelude.{Option, Some, None}
+use Rattle.std.specs.Option.{unwrap_or, MatchOption}
+use Rattle.std.specs.List.{zip, position_or_len, slice_range}
+use Rattle.std.proofs.lemmas.List.{drop_all, take_all}
+use Rattle.std.proofs.lemmas.Slice.Zip.{length-zip}
 use Rattle.layout.specs.Beginnings.{alike}
 use Rattle.layout.specs.Walking.{reach}
 use Rattle.layout.proofs.AlikeLaws.{alike_left, alike_right}
-
--- Two bytes that are the same, and two that are not.
-byte_same : (x y : ℕ) (u v : List ℕ) → x ≡ y → alike (x ∷ u) (y ∷ v) ≡ suc (alike u v)
-unfolding alike
-byte_same x y u v e = rw (eq-eqb x y e)
-
-byte_other : (x y : ℕ) (u v : List ℕ) → (x ≡ y → ⊥) → alike (x ∷ u) (y ∷ v) ≡ 0
-unfolding alike
-byte_other x y u v e = rw (ne_eqb x y e)
 
 -- No more than the text has from there on.
 pub reach_fits : (s : List ℕ) (at : ℕ) (w : List ℕ) → reach s at w ≤ length s - at
 reach_fits s at w = omega (arith, alike_left (drop at s) w, length-drop at s)
 
-module _ (s : List ℕ) (at : ℕ) (w : List ℕ) where
-  -- The first i bytes of the word stand, and the rest is still to be compared.
-  abbrev pub Sofar : ℕ → Type 0
-  Sofar i = reach s at w ≡ i + alike (drop (at + i) s) (drop i w)
+-- What is left of the text from a place on, also where the place is past its end.
+pub left_of : (s : List ℕ) (at : ℕ) (got : Option (Bor (List ℕ))) (none left : Bor (List ℕ)) → none.now ≡ [] → left ≡ unwrap_or got none
+    → MatchOption got ((length s < at) ⊎ (length s < length s)) (λ x. (at ≤ length s) × (length s ≤ length s) × (x.now ≡ slice_range s at (length s)) × (length x.now + at ≡ length s))
+    → left.now ≡ drop at s
+left_of s at None none left empty e (inl h) = rw e (empty ∙ sym (drop_all at s (omega arith)))
+left_of s at None none left empty e (inr h) = absurd (omega arith)
+left_of s at (Some x) none left empty e h = rw e (h.2 ∙ take_all (length s - at) (drop at s) (omega (arith, length-drop at s)))
 
-  pub sofar_none : Sofar 0
-  sofar_none =
-      let e : at + 0 ≡ at = omega arith in
-      rw e (omega arith)
+-- Two bytes that differ.
+abbrev pub differ : ℕ × ℕ → Bool
+differ p = not (eqb p.0 p.1)
 
-  module _ (i : ℕ) (so : Sofar i) where
-    -- The text ends first.
-    pub text_ends : length s - at ≤ i → length s - at ≡ reach s at w
-    text_ends h = omega (arith, so, reach_fits s at w)
+differ_first : (u w : List ℕ) → position_or_len differ (zip u w) ≡ alike u w
+unfolding alike
+differ_first [] w = refl
+differ_first (x ∷ u) [] = refl
+differ_first (x ∷ u) (y ∷ w) = pick (eqb x y) (differ_first u w)
+  where
+    pick : (b : Bool) → position_or_len differ (zip u w) ≡ alike u w
+        → cond (not (not b)) (1 + position_or_len differ (zip u w)) 0 ≡ cond b (suc (alike u w)) 0
+    pick true e = omega (arith, e)
+    pick false e = refl
 
-    -- The word ends first.
-    pub word_ends : length w ≤ i → length w ≡ reach s at w
-    word_ends h = omega (arith, so, alike_right (drop at s) w)
-
-    module _ (here : at + i < length s) (asked : i < length w) where
-      opened : reach s at w ≡ i + alike (get_or s (at + i) 0 ∷ drop (suc (at + i)) s) (get_or w i 0 ∷ drop (suc i) w)
-      opened = rw (← drop-cons s (at + i) 0 here, ← drop-cons w i 0 asked) so
-
-      pub differs : (get_or s (at + i) 0 ≡ get_or w i 0 → ⊥) → i ≡ reach s at w
-      differs h =
-          let e = byte_other (get_or s (at + i) 0) (get_or w i 0) (drop (suc (at + i)) s) (drop (suc i) w) h in
-          omega (arith, opened)
-
-      pub sofar_more : get_or s (at + i) 0 ≡ get_or w i 0 → Sofar (i + 1)
-      sofar_more h =
-          let e = byte_same (get_or s (at + i) 0) (get_or w i 0) (drop (suc (at + i)) s) (drop (suc i) w) h in
-          let next : at + (i + 1) ≡ suc (at + i) = omega arith in
-          rw (next, add-one i) (omega (arith, opened))
+-- The first place where they differ, or else the length of the shorter.
+pub stands_up_to : (u w : List ℕ) (r : Option ℕ)
+    → r ≡ cond (ltb (position_or_len differ (zip u w)) (length (zip u w))) (Some (position_or_len differ (zip u w))) None
+    → unwrap_or r (min (length u) (length w)) ≡ alike u w
+stands_up_to u w r e = rw e (pick (ltb (position_or_len differ (zip u w)) (length (zip u w))) refl)
+  where
+    pick : (b : Bool) → ltb (position_or_len differ (zip u w)) (length (zip u w)) ≡ b
+        → unwrap_or (cond b (Some (position_or_len differ (zip u w))) None) (min (length u) (length w)) ≡ alike u w
+    pick true h = differ_first u w
+    pick false h =
+        omega (arith, ltb-false _ _ h, differ_first u w, length-zip u w, alike_left u w, alike_right u w)

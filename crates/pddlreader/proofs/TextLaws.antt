@@ -7,17 +7,18 @@ use Rattle.layout.specs.Layouts.{Layout, done, word}
 use Rattle.layout.specs.Walking.{walk, reads, stops}
 use Rattle.table.specs.Sizes.{max_facts}
 use Rattle.taskformat.specs.Reading.{accepted_read, refused_read}
-use Rattle.pddl.specs.Readings.{not_the_layout, without_runs, accepted_problem, refused_problem, ReadsDomain, ReadsProblem}
+use Rattle.table.specs.Refusals.{not_the_layout}
+use Rattle.pddl.specs.Readings.{without_runs, accepted_problem, refused_problem, ReadsDomain, ReadsProblem}
 use Rattle.pddl.specs.Texts.{fact_line, domain_opening, predicates_end, domain_end, problem_opening, goal_opening, problem_end}
 use Rattle.pddl.specs.Trees.{Said, a_table, a_run, set_tree, count_from, first_action, domain_tree, problem_tree}
 use Rattle.pddlreader.specs.Cursors.{walk_from, tried, had_to_stand, is_whole}
 use Rattle.pddlreader.specs.Walks.{ReadsSet, ReadsCount, ReadsActions, start, WalksDomain, WalksProblem}
-use Rattle.pddlreader.specs.declared.actions.TableRead.{TableRead}
+use Rattle.pddlreader.specs.Walks.{TableRead}
 use Rattle.pddlreader.specs.declared.cursor.Cursor.{Cursor}
-use Rattle.pddlreader.specs.declared.cursor.Tried.{Tried}
-use Rattle.pddlreader.specs.declared.lines.Counted.{Counted}
-use Rattle.pddlreader.specs.declared.lines.SetRead.{SetRead}
-use Rattle.pddlreader.specs.declared.walks.RunRead.{RunRead}
+use Rattle.pddlreader.specs.Cursors.{Tried}
+use Rattle.pddlreader.specs.Walks.{Counted}
+use Rattle.pddlreader.specs.Walks.{SetRead}
+use Rattle.pddlreader.specs.Walks.{RunRead}
 use Rattle.pddl.proofs.Walked.{domain_walked, domain_stopped, problem_walked, problem_stopped}
 use Rattle.pddlreader.proofs.WalkLaws.{walk_word}
 

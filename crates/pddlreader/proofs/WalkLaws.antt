@@ -14,8 +14,8 @@ use Rattle.pddl.specs.Trees.{Said, set_from, set_tree, count_from}
 use Rattle.pddlreader.specs.Cursors.{walk_from, tried, had_to_stand}
 use Rattle.pddlreader.specs.Walks.{ReadsLine, ReadsSet, ReadsCount}
 use Rattle.pddlreader.specs.declared.cursor.Cursor.{Cursor}
-use Rattle.pddlreader.specs.declared.cursor.Tried.{Tried}
-use Rattle.pddlreader.specs.declared.lines.SetRead.{SetRead}
+use Rattle.pddlreader.specs.Cursors.{Tried}
+use Rattle.pddlreader.specs.Walks.{SetRead}
 
 module _ (s : List ℕ) (c : Cursor) (w : List ℕ) where
   pub walk_word : {A : Type 0} (l : Layout A) {after : Cursor} → after ≡ had_to_stand (tried s c w) → walk_from (word w l) s c ≡ walk_from l s after
@@ -39,11 +39,11 @@ module _ (s : List ℕ) (c : Cursor) (w : List ℕ) where
 
 module _ (line : ℕ → List ℕ) (s : List ℕ) where
   module _ (f : ℕ) (before : SetRead) {t : Tried} (e : t ≡ tried s before.cursor (line f)) where
-    pub line_missing : t.taken ≡ false → ReadsLine line f s before (record { cursor = t.cursor; set = before.set })
+    pub line_missing : t.taken ≡ false → {m : ℕ} → m ≡ before.set → ReadsLine line f s before (record { cursor = t.cursor; set = m })
     unfolding set_from
-    line_missing h left rest =
+    line_missing h k left rest =
         walk_missing s before.cursor (line f) (set_from line left (suc f) (joined before.set (only f)) rest)
-        (set_from line left (suc f) before.set rest) e h
+        (set_from line left (suc f) before.set rest) e h ∙ rw k
 
     pub line_stands : t.taken ≡ true → {m : ℕ} → m ≡ joined before.set (only f)
         → ReadsLine line f s before (record { cursor = t.cursor; set = m })

@@ -1,10 +1,13 @@
 -- The words of the inner functions: the walk's place, and what one word makes of it.
-use Rattle.std.specs.Prelude.{Bool, true, false, ◌&&◌, List, ℕ, eqb, length}
+use Rattle.std.specs.Prelude.{Bool, ◌&&◌, List, ℕ, eqb, length}
 use Rattle.layout.specs.Layouts.{Layout}
 use Rattle.layout.specs.Walking.{Walked, taken, past, farther, walk}
-use Rattle.pddl.specs.Texts.{fact_line, delete_line}
 use Rattle.pddlreader.specs.declared.cursor.Cursor.{Cursor}
-use Rattle.pddlreader.specs.declared.cursor.Tried.{Tried}
+
+-- Whether a word stood, and the walk's place after it.
+pub record Tried : Type 0 where
+  pub taken : Bool
+  pub cursor : Cursor
 
 -- What the walk gives from its place on.
 abbrev pub walk_from : {A : Type 0} → Layout A → List ℕ → Cursor → Walked A
@@ -24,8 +27,3 @@ had_to_stand t = record { good = t.taken; at = t.cursor.at; far = t.cursor.far }
 -- Every word stood that had to, and nothing is left of the text.
 abbrev pub is_whole : Cursor → List ℕ → Bool
 is_whole c s = c.good && eqb c.at (length s)
-
--- A line of a fact: of what is deleted, or of any other set.
-abbrev pub line_of : Bool → ℕ → List ℕ
-line_of true = delete_line
-line_of false = fact_line

@@ -3,15 +3,36 @@
 use Rattle.std.specs.Prelude.{true, List, ◌≡◌, ℕ, suc, ◌-◌}
 use Rattle.layout.specs.Layouts.{Layout, done, word}
 use Rattle.table.specs.Sizes.{max_facts}
+use Rattle.table.specs.declared.Table.{Table}
 use Rattle.pddl.specs.Texts.{fact_line, domain_end}
 use Rattle.pddl.specs.Trees.{Said, a_table, a_run, set_from, set_tree, count_from, action_tree, first_action, domain_tree, problem_tree}
 use Rattle.pddlreader.specs.Cursors.{walk_from}
-use Rattle.pddlreader.specs.declared.actions.ActionRead.{ActionRead}
-use Rattle.pddlreader.specs.declared.actions.TableRead.{TableRead}
 use Rattle.pddlreader.specs.declared.cursor.Cursor.{Cursor}
-use Rattle.pddlreader.specs.declared.lines.Counted.{Counted}
-use Rattle.pddlreader.specs.declared.lines.SetRead.{SetRead}
-use Rattle.pddlreader.specs.declared.walks.RunRead.{RunRead}
+
+-- What a part of a text says, and the walk's place after it: a set of facts; how many facts there are; what an action needs, adds and deletes; a
+-- table; and a run's start and goal.
+pub record SetRead : Type 0 where
+  pub cursor : Cursor
+  pub set : ℕ
+
+pub record Counted : Type 0 where
+  pub cursor : Cursor
+  pub facts : ℕ
+
+pub record ActionRead : Type 0 where
+  pub cursor : Cursor
+  pub needs : ℕ
+  pub adds : ℕ
+  pub deletes : ℕ
+
+pub record TableRead : Type 0 where
+  pub cursor : Cursor
+  pub table : Table
+
+pub record RunRead : Type 0 where
+  pub cursor : Cursor
+  pub start : ℕ
+  pub goal : ℕ
 
 -- The line of fact f, of a set whose lower facts were read.
 abbrev pub ReadsLine : (ℕ → List ℕ) → ℕ → List ℕ → SetRead → SetRead → Type 0

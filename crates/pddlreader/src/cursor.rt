@@ -1,7 +1,7 @@
 // The walk's place in a text, and how one word takes it on (02, request 4).
-ghost use Rattle.std.specs.Prelude.{◌≡◌, max};
+ghost use Rattle.std.specs.Prelude.{◌≡◌};
 ghost use Rattle.layout.specs.Walking.{reach};
-ghost use Rattle.pddlreader.specs.Cursors.{tried, had_to_stand};
+ghost use Rattle.pddlreader.specs.Cursors.{tried, had_to_stand, is_whole};
 
 // Where the walk has come to, whether every word stood that had to, and how far the text goes with the layout.
 #[derive(Clone, Copy)]
@@ -11,81 +11,45 @@ pub(crate) struct Cursor {
     pub(crate) far: usize,
 }
 
-// Whether a word stood, and the walk's place after it.
-#[derive(Clone, Copy)]
-pub(crate) struct Tried {
-    pub(crate) taken: bool,
-    pub(crate) cursor: Cursor,
-}
-
 // How many bytes of the word stand at a place of the text.
 fn alike_at(s: &[u8], at: usize, word: &[u8]) -> usize
     ensures { result ≡ reach s.now at word.now }
 {
-    if s.len() <= at {
-        return 0;
-    }
-    let left = s.len() - at;
-    for i in 0..word.len() {
-        if left <= i {
-            return left;
+    let left = s.get(at..).unwrap_or(&[]);
+    left.iter()
+        .zip(word)
+        .position(|(a, b)| a != b)
+        .unwrap_or(left.len().min(word.len()))
+}
+
+impl Cursor {
+    // A word that may stand here: whether it does. Where one is missing that had to, nothing is taken any more.
+    pub(crate) fn takes(&mut self, s: &[u8], word: &[u8]) -> bool
+        ensures { record { taken = result; cursor = self.new } ≡ tried s.now self.old word.now }
+    {
+        if !self.good {
+            return false;
         }
-        if s[at + i] != word[i] {
-            return i;
+        let stands = alike_at(s, self.at, word);
+        self.far = self.far.max(self.at + stands);
+        if stands != word.len() {
+            return false;
         }
+        self.at += stands;
+        true
     }
-    word.len()
-}
 
-fn later(a: usize, b: usize) -> usize
-    ensures { result ≡ max a b }
-{
-    if a < b { b } else { a }
-}
+    // A word that has to stand here.
+    pub(crate) fn expect(&mut self, s: &[u8], word: &[u8])
+        ensures { self.new ≡ had_to_stand (tried s.now self.old word.now) }
+    {
+        self.good = self.takes(s, word);
+    }
 
-// A word that may stand here. Where one is missing that had to, nothing is taken any more.
-pub(crate) fn try_word(s: &[u8], c: Cursor, word: &[u8]) -> Tried
-    ensures { result ≡ tried s.now c word.now }
-{
-    if !c.good {
-        return Tried {
-            taken: false,
-            cursor: c,
-        };
+    // Every word stood that had to, and nothing is left of the text.
+    pub(crate) fn is_whole(self, text: &[u8]) -> bool
+        ensures { result ≡ is_whole self text.now }
+    {
+        self.good & (self.at == text.len())
     }
-    let at = c.at;
-    let stands = alike_at(s, at, word);
-    let far = later(c.far, at + stands);
-    if stands != word.len() {
-        return Tried {
-            taken: false,
-            cursor: Cursor { far, ..c },
-        };
-    }
-    Tried {
-        taken: true,
-        cursor: Cursor {
-            good: true,
-            at: at + stands,
-            far,
-        },
-    }
-}
-
-// The place after a word that had to stand.
-pub(crate) fn had_to_stand(t: Tried) -> Cursor
-    ensures { result ≡ had_to_stand t }
-{
-    let after = t.cursor;
-    Cursor {
-        good: t.taken,
-        ..after
-    }
-}
-
-// A word that has to stand here.
-pub(crate) fn expect(s: &[u8], c: Cursor, word: &[u8]) -> Cursor
-    ensures { result ≡ had_to_stand (tried s.now c word.now) }
-{
-    had_to_stand(try_word(s, c, word))
 }

@@ -1,97 +1,51 @@
 // The lines that carry a number (docs/PDDL.md), and the sets and counts that they make.
 ghost use Rattle.std.specs.Prelude.{◌≡◌};
 ghost use Rattle.pddl.specs.Texts.{action_head};
-ghost use Rattle.pddlwords.specs.Spelling.{Spells};
-ghost use Rattle.pddlreader.specs.Cursors.{tried, line_of};
-ghost use Rattle.pddlreader.specs.Walks.{ReadsLine, ReadsSet, ReadsCount};
+ghost use Rattle.pddlwords.specs.Spelling.{line_of};
+ghost use Rattle.pddlreader.specs.Cursors.{tried};
+ghost use Rattle.pddlreader.specs.Walks.{ReadsSet, ReadsCount};
 
-use crate::cursor::{Cursor, Tried, try_word};
-use pddlwords::{Word, action_head, delete_line, fact_line};
+use crate::cursor::Cursor;
+use pddlwords::{Line, action_head};
 use table::FACTS;
 
-// A set of facts, and the walk's place after its lines.
-#[derive(Clone, Copy)]
-pub(crate) struct SetRead {
-    pub(crate) cursor: Cursor,
-    pub(crate) set: u64,
-}
-
-// How many facts there are, and the walk's place after their lines.
-#[derive(Clone, Copy)]
-pub(crate) struct Counted {
-    pub(crate) cursor: Cursor,
-    pub(crate) facts: usize,
-}
-
-fn line_of(deletes: bool, fact: usize) -> Word
-    ensures { Spells result (line_of deletes fact) }
-{
-    if deletes {
-        return delete_line(fact);
+impl Cursor {
+    // The line of a fact, which may stand here.
+    pub(crate) fn takes_line(&mut self, s: &[u8], line: Line, fact: usize) -> bool
+        ensures { record { taken = result; cursor = self.new } ≡ tried s.now self.old (line_of line fact) }
+    {
+        self.takes(s, line.of(fact).text())
     }
-    fact_line(fact)
-}
 
-// The line of a fact, which may stand here.
-pub(crate) fn try_line(s: &[u8], c: Cursor, deletes: bool, fact: usize) -> Tried
-    ensures { result ≡ tried s.now c (line_of deletes fact) }
-{
-    let line = line_of(deletes, fact);
-    let bytes = line.bytes;
-    let len = line.len;
-    try_word(s, c, &bytes[..len])
-}
-
-// The head of an action, which may stand here.
-pub(crate) fn try_head(s: &[u8], c: Cursor, action: usize) -> Tried
-    ensures { result ≡ tried s.now c (action_head action) }
-{
-    let head = action_head(action);
-    let bytes = head.bytes;
-    let len = head.len;
-    try_word(s, c, &bytes[..len])
-}
-
-// One line more of a set: where it stands, its fact is in.
-fn next_line(s: &[u8], read: SetRead, deletes: bool, fact: usize) -> SetRead
-    ensures { ReadsLine (line_of deletes) fact s.now read result }
-{
-    let line = try_line(s, read.cursor, deletes, fact);
-    let cursor = line.cursor;
-    if !line.taken {
-        return SetRead { cursor, ..read };
+    // The head of an action, which may stand here.
+    pub(crate) fn takes_head(&mut self, s: &[u8], action: usize) -> bool
+        ensures { record { taken = result; cursor = self.new } ≡ tried s.now self.old (action_head action) }
+    {
+        self.takes(s, action_head(action).text())
     }
-    SetRead {
-        cursor,
-        set: facts::with_fact(read.set, fact),
-    }
-}
 
-// The lines of a set, ascending.
-pub(crate) fn read_set(s: &[u8], c: Cursor, facts: usize, deletes: bool) -> SetRead
-    ensures { ReadsSet (line_of deletes) facts s.now c result }
-{
-    let mut read = SetRead { cursor: c, set: 0 };
-    for fact in 0..facts {
-        read = next_line(s, read, deletes, fact);
-    }
-    read
-}
-
-// The lines of the facts that there are, after the first.
-pub(crate) fn read_count(s: &[u8], c: Cursor) -> Counted
-    ensures { ReadsCount s.now c result }
-{
-    let mut cursor = c;
-    for facts in 1..FACTS {
-        let line = try_line(s, cursor, false, facts);
-        cursor = line.cursor;
-        if !line.taken {
-            return Counted { cursor, facts };
+    // The lines of a set, ascending: where one stands, its fact is in.
+    pub(crate) fn read_set(&mut self, s: &[u8], facts: usize, line: Line) -> u64
+        ensures { ReadsSet (line_of line) facts s.now self.old (record { cursor = self.new; set = result }) }
+    {
+        let mut set = 0;
+        for fact in 0..facts {
+            if self.takes_line(s, line, fact) {
+                set = facts::with_fact(set, fact);
+            }
         }
+        set
     }
-    Counted {
-        cursor,
-        facts: FACTS,
+
+    // How many facts there are, by their lines after the first.
+    pub(crate) fn read_count(&mut self, s: &[u8]) -> usize
+        ensures { ReadsCount s.now self.old (record { cursor = self.new; facts = result }) }
+    {
+        for facts in 1..FACTS {
+            if !self.takes_line(s, Line::Fact, facts) {
+                return facts;
+            }
+        }
+        FACTS
     }
 }

@@ -1,60 +1,44 @@
 // The walk along a whole text (docs/PDDL.md), from its first byte on.
 ghost use Rattle.pddlreader.specs.Walks.{WalksDomain, WalksProblem};
 
-use crate::actions::{TableRead, read_actions};
-use crate::cursor::{Cursor, expect, had_to_stand};
-use crate::lines::{read_count, read_set, try_line};
+use crate::cursor::Cursor;
+use pddl::RunEnds;
+use pddlwords::Line;
+use table::Table;
 
-// A run's start and goal, and the walk's place after the text.
-#[derive(Clone, Copy)]
-pub(crate) struct RunRead {
-    pub(crate) cursor: Cursor,
-    pub(crate) start: u64,
-    pub(crate) goal: u64,
-}
+const START: Cursor = Cursor {
+    good: true,
+    at: 0,
+    far: 0,
+};
 
-pub(crate) fn walk_domain(text: &[u8], limit: usize) -> TableRead
-    ensures { WalksDomain limit text.now result }
+pub(crate) fn walk_domain(text: &[u8], limit: usize) -> (Cursor, Table)
+    ensures { WalksDomain limit text.now (record { cursor = result.0; table = result.1 }) }
 {
-    let begun = Cursor {
-        good: true,
-        at: 0,
-        far: 0,
-    };
-    let opened = expect(
+    let mut walk = START;
+    walk.expect(
         text,
-        begun,
         b"(define (domain stage)\n  (:requirements :strips)\n  (:predicates\n",
     );
-    let first = had_to_stand(try_line(text, opened, false, 0));
-    let counted = read_count(text, first);
-    let told = expect(text, counted.cursor, b"  )\n");
-    let read = read_actions(text, told, counted.facts, limit);
-    let cursor = expect(text, read.cursor, b")\n");
-    let table = read.table;
-    TableRead { cursor, table }
+    walk.good = walk.takes_line(text, Line::Fact, 0);
+    let facts = walk.read_count(text);
+    walk.expect(text, b"  )\n");
+    let table = walk.read_actions(text, facts, limit);
+    walk.expect(text, b")\n");
+    (walk, table)
 }
 
-pub(crate) fn walk_problem(text: &[u8], facts: usize) -> RunRead
-    ensures { WalksProblem facts text.now result }
+pub(crate) fn walk_problem(text: &[u8], facts: usize) -> (Cursor, RunEnds)
+    ensures { WalksProblem facts text.now (record { cursor = result.0; start = result.1.start; goal = result.1.goal }) }
 {
-    let begun = Cursor {
-        good: true,
-        at: 0,
-        far: 0,
-    };
-    let opened = expect(
+    let mut walk = START;
+    walk.expect(
         text,
-        begun,
         b"(define (problem run)\n  (:domain stage)\n  (:init\n",
     );
-    let start = read_set(text, opened, facts, false);
-    let goals = expect(text, start.cursor, b"  )\n  (:goal (and\n");
-    let goal = read_set(text, goals, facts, false);
-    let cursor = expect(text, goal.cursor, b"  ))\n)\n");
-    RunRead {
-        cursor,
-        start: start.set,
-        goal: goal.set,
-    }
+    let start = walk.read_set(text, facts, Line::Fact);
+    walk.expect(text, b"  )\n  (:goal (and\n");
+    let goal = walk.read_set(text, facts, Line::Fact);
+    walk.expect(text, b"  ))\n)\n");
+    (walk, RunEnds { start, goal })
 }

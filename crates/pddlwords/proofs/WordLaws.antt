@@ -44,8 +44,8 @@ module _ (n : ℕ) where
     long_placed h f p q = rw (name_long h, ← e, ← f) (placed_more p q)
 
 -- The bytes that fill an array's first places are a word.
-pub spelled : {before after t : List ℕ} {next : ℕ} → length before ≡ word_room → length t ≤ word_room → Placed before after 0 next t
-    → Spells (record { bytes = after; len = next }) t
+pub spelled : {before after t : List ℕ} {next : ℕ} {within : next ≤ word_room} → length before ≡ word_room → length t ≤ word_room
+    → Placed before after 0 next t → Spells (record { bytes = after; len = next; within = within }) t
 spelled {before} {after} {t} {next} room h p =
     let fits : length t ≤ length before = omega arith in
     let ends : length t ≡ next = omega (arith, p.next_is) in

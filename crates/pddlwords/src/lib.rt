@@ -2,23 +2,17 @@
 
 #![tactic(auto)]
 
+mod word;
+
 ghost use Rattle.std.specs.Prelude.{◌++◌, ◌≡◌, ◌+◌, ◌%◌, ◌≤◌, length};
 ghost use Rattle.room.specs.Placing.{last_place, Placed};
 ghost use Rattle.text.specs.Text.{digit_zero};
-ghost use Rattle.pddl.specs.Texts.{name, fact_line, delete_line, action_head};
-ghost use Rattle.pddlwords.specs.Spelling.{word_room, Spells};
+ghost use Rattle.pddl.specs.Texts.{name, action_head};
+ghost use Rattle.pddlwords.specs.Spelling.{word_room, Spells, line_of};
 
 use room::{put, put_word};
-
-// Room for the longest, the head of an action.
-const ROOM: usize = 64;
-
-// A word is the first `len` of the bytes.
-#[derive(Clone, Copy)]
-pub struct Word {
-    pub bytes: [u8; ROOM],
-    pub len: usize,
-}
+use word::ROOM;
+pub use word::Word;
 
 // The byte of a number's last digit.
 fn digit(n: usize) -> u8
@@ -50,17 +44,23 @@ fn named(lead: &[u8], n: usize, tail: &[u8]) -> Word
     Word { bytes, len: next }
 }
 
-// Any number has a word: that of its last two digits.
-pub fn fact_line(fact: usize) -> Word
-    ensures { Spells result (fact_line fact) }
-{
-    named(b"    (f", fact, b")\n")
+// Which line of a fact stands in a set: its fact line, or its delete line.
+#[derive(Clone, Copy, PartialEq, Eq, Debug)]
+pub enum Line {
+    Fact,
+    Deleted,
 }
 
-pub fn delete_line(fact: usize) -> Word
-    ensures { Spells result (delete_line fact) }
-{
-    named(b"    (not (f", fact, b"))\n")
+impl Line {
+    // Any number has a word: that of its last two digits.
+    pub fn of(self, fact: usize) -> Word
+        ensures { Spells result (line_of self fact) }
+    {
+        match self {
+            Line::Fact => named(b"    (f", fact, b")\n"),
+            Line::Deleted => named(b"    (not (f", fact, b"))\n"),
+        }
+    }
 }
 
 pub fn action_head(action: usize) -> Word

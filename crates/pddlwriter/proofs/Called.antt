@@ -5,7 +5,7 @@ use mathlib.Core.Path.{◌≡◌}
 use Prim.Native.Nat.{ℕ}
 use Rattle.table.proofs.ContractLaws.{call_keeps}
 use Rattle.table.specs.Asks.{Call, AsksNothing}
-use Rattle.table.specs.Outcomes.{Outcome}
+use Rattle.table.specs.Outcomes.{Outcome, reply_of}
 use Rattle.table.specs.declared.Task.{Task}
 use Rattle.pddlwriter.proofs.write_domain.Reads as write-domain
 use Rattle.pddlwriter.proofs.write_problem.Reads as write-problem
@@ -14,7 +14,7 @@ use Rattle.pddlwriter.specs.Writing.{domain_written, problem_written}
 -- Writing the domain text of t into this room gives o.
 abbrev pub WriteDomainGives : Task → List ℕ → Outcome → Type 0
 WriteDomainGives t room o =
-    Call {I = Task × List ℕ} {O = Outcome} write-domain.Post (λ a. (a.0, a.1.0.now)) (λ r b. record { reply = r; room = b.1.0.now })
+    Call {I = Task × List ℕ} {O = Outcome} write-domain.Post (λ a. (a.0, a.1.0.now)) (λ r b. record { reply = reply_of r; room = b.1.0.now })
     (t, room) o
 
 pub write_domain_gives : (t : Task) (room : List ℕ) (o : Outcome) → WriteDomainGives t room o → o ≡ domain_written t room
@@ -27,7 +27,7 @@ write_domain_asks_nothing k a = tt
 abbrev pub WriteProblemGives : Task → ℕ → List ℕ → Outcome → Type 0
 WriteProblemGives t run room o =
     Call {I = Task × ℕ × List ℕ} {O = Outcome} write-problem.Post (λ a. (a.0, a.1.0, a.1.1.0.now))
-    (λ r b. record { reply = r; room = b.1.1.0.now }) (t, run, room) o
+    (λ r b. record { reply = reply_of r; room = b.1.1.0.now }) (t, run, room) o
 
 pub write_problem_gives : (t : Task) (run : ℕ) (room : List ℕ) (o : Outcome) → WriteProblemGives t run room o → o ≡ problem_written t run room
 write_problem_gives t run room o = call_keeps (λ i o. o ≡ problem_written i.0 i.1 i.2) (λ k a r b p. p) (t, run, room) o

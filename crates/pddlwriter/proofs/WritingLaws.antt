@@ -1,25 +1,20 @@
 -- What writing gives in each of its cases. Assumes nothing.
-use mathlib.Core.Bool.{true, false}
+use mathlib.Core.Bool.{Bool, true, false}
 use mathlib.Core.List.{List}
-use mathlib.Core.Path.{◌≡◌}
+use mathlib.Core.Path.{◌≡◌, sym, ◌∙◌}
 use Prim.Native.Nat.{ℕ, ◌<◌, ◌≤◌}
-use native.Mathlib.Omega.{arith}
 use borrow.Author.Tests.{lt-ltb, le-ltb}
-use lib.ListN.{length}
-use Rattle.room.proofs.PlacingLaws.{placed_whole}
-use Rattle.room.specs.Placing.{Placed}
-use Rattle.table.proofs.OutcomeLaws.{given_whole}
+use Rattle.table.proofs.Formation.{formed_well}
 use Rattle.table.specs.Outcomes.{Outcome, refused, given}
-use Rattle.table.specs.Refusals.{accepted, not_well_formed, not_there}
-use Rattle.table.specs.Tasks.{formed}
+use Rattle.table.specs.Refusals.{not_well_formed, not_there}
+use Rattle.table.specs.Tasks.{formed, Shaped, WellFormed}
 use Rattle.table.specs.declared.Task.{Task}
 use Rattle.pddl.specs.Texts.{domain_text}
 use Rattle.pddlwriter.specs.Writing.{domain_written, problem_of, problem_written}
 
--- A text that was placed where there is room for it.
-pub given_placed : (text room after : List ℕ) (end : ℕ) → length text ≤ length room → Placed room after 0 end text
-    → ◌≡◌ {A = Outcome} (record { reply = record { number = accepted; place = 0; length = end }; room = after }) (given text room)
-given_placed text room after end h p = given_whole text room after end h (omega (arith, p.next_is)) (placed_whole p h)
+-- Past the first test the task is well formed.
+pub is_well : {t : Task} {tested : Bool} → Shaped t → tested ≡ formed t → tested ≡ true → WellFormed t
+is_well {t} shaped told good = formed_well t shaped (sym told ∙ good)
 
 module _ (t : Task) (room : List ℕ) where
   pub domain_unformed : formed t ≡ false → domain_written t room ≡ refused not_well_formed room

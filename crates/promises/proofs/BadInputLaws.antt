@@ -35,16 +35,16 @@ use Rattle.table.specs.Answer.{Verdict, found, over, hopeless, Permitted}
 use Rattle.table.specs.Join.{join_verdicts}
 use Rattle.table.specs.Outcomes.{Outcome, refusal, refused, given}
 use Rattle.table.specs.Refusals.{accepted, bytes_after_end, not_well_formed, not_a_session, not_there, list_not_permitted, too_many_runs, lock_without_need}
-use Rattle.table.specs.Tasks.{cells_of, course_of, formed, WellFormed}
+use Rattle.table.specs.Tasks.{cells_of, course_of, formed, WellFormed, no_task}
 use Rattle.table.specs.declared.Reply.{Reply}
 use Rattle.table.specs.declared.Task.{Task}
 use Rattle.table.specs.declared.TaskReply.{TaskReply}
 use Rattle.taskformat.proofs.FilesAreTasks.{accepted_exactly, accepted_read_lem}
 use Rattle.taskformat.proofs.Places.{read_marks}
 use Rattle.taskformat.specs.Format.{file_of}
-use Rattle.taskformat.specs.Reading.{accepted_read, Seen, no_task, faults_at, fault_at, Marks, Reads, ReadsFile, faulty, good, ended, trailing}
+use Rattle.taskformat.specs.Reading.{accepted_read, Seen, faults_at, fault_at, Marks, Reads, ReadsFile, faulty, good, ended, trailing}
 use Rattle.records.specs.Records.{record_fault, record_at, whole_record, refused_record}
-use Rattle.records.specs.declared.record.Record.{Record}
+use Rattle.records.specs.declared.record.RecordReply.{RecordReply}
 use Rattle.taskwriter.specs.Writing.{written}
 
 -- A number of document 01's table, or of 02's requests 1, 4 and 6.
@@ -109,7 +109,7 @@ record_fault_lem s at = first_of_in Listed _ (omega arith) (omega arith, (omega 
 pub record_number : (s : List ℕ) (at : ℕ) → Listed (record_at s at).number
 unfolding record_at
 record_number s at =
-    either (λ (r : Record). Listed r.number) (eqb (record_fault s at).number accepted) (whole_record s at)
+    either (λ (r : RecordReply). Listed r.number) (eqb (record_fault s at).number accepted) (whole_record s at)
     (refused_record (record_fault s at).number (record_fault s at).place) (omega arith) (record_fault_lem s at)
 
 -- ---- the run check

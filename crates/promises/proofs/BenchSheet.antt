@@ -45,20 +45,20 @@ use Rattle.table.specs.Repairs.{permits, permitted, chosen}
 use Rattle.table.specs.Sizes.{max_facts}
 use Rattle.table.specs.Worked.{two_deletes, two_runs, locked_need, locked_first}
 use Rattle.table.specs.Strips.{state_at}
-use Rattle.table.specs.Tasks.{cells_of, course_of, formed, sizes_formed, run_fits, run_formed, mask_formed, action_formed, locks_formed, step_fits, step_formed, WellFormed}
+use Rattle.table.specs.Tasks.{cells_of, course_of, formed, sizes_formed, run_fits, run_formed, mask_formed, action_formed, locks_formed, step_fits, step_formed, WellFormed, no_task}
 use Rattle.table.specs.declared.Task.{Task}
 use Rattle.taskformat.proofs.Function.{reads_total}
 use Rattle.taskformat.proofs.Unique.{reads_unique}
 use Rattle.taskformat.specs.Computed.{read_from, read_file}
 use Rattle.taskformat.specs.Format.{is_kind, file_order, first_place, position_of, is_cell_kind, is_fact_kind, body_length}
-use Rattle.taskformat.specs.Reading.{ReadsFile, refused_read, accepted_read, no_task, body_at, misplaced, sizes_wrong, outside, disordered, lock_stray, wrong_byte, place_of, faults_at, table_after, runs_after, seen_after}
+use Rattle.taskformat.specs.Reading.{ReadsFile, refused_read, accepted_read, body_at, misplaced, sizes_wrong, outside, disordered, lock_stray, wrong_byte, place_of, faults_at, table_after, runs_after, seen_after}
 use Rattle.table.specs.declared.TaskReply.{TaskReply}
 use Rattle.promises.proofs.BadInputLaws.{edit_refused}
 use Rattle.promises.proofs.CertificateLaws.{certified_well, certified_within, certified_only}
 use Rattle.promises.proofs.SolvedLaws.{part_well, rest_within, rest_solved}
 use Rattle.promises.specs.Determined.{Only}
 use Rattle.promises.specs.Certificates.{is_right_with, mends, mend_both, none_mends, none_with, is_shut, certifies, certified, of_fact, parts_of}
-use Rattle.promises.specs.Sheet.{reads, lists, checks, solves, refuses, works_later, edits, refuses_edit, sits, leaves, refuses_second, Stands, AllHold, all, ◌and◌, SittingStands, SittingsHold, no_more, ◌besides◌, delete_absent, untouched, listing_text, refused_text, stray_text, sheet, steps_of, refusal_files, two_runs_file, two_runs_text, several_runs, keeps_the_goal, gives_nothing, tries_the_next, rejected_steps, locked_file, locked_text, lock_set, need_cleared, stray_lock_set, lock_set_outside, locked_needs, two_sittings, figures}
+use Rattle.promises.specs.Sheet.{reads, lists, checks, solves, refuses, works_later, edits, refuses_edit, sits, leaves, refuses_second, Stands, AllHold, all, ◌and◌, SittingStands, SittingsHold, no_more, ◌besides◌, delete_absent, untouched, listing_text, refused_text, stray_text, sheet, steps_of, refusal_files, two_runs_text, several_runs, keeps_the_goal, gives_nothing, tries_the_next, rejected_steps, locked_text, lock_set, need_cleared, stray_lock_set, lock_set_outside, locked_needs, two_sittings, figures}
 
 -- ---- what is enough for a row of each kind
 

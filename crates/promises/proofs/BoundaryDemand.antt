@@ -22,7 +22,7 @@ use Rattle.boundary.proofs.zp_record.Reads as zp-record
 use Rattle.boundary.proofs.zp_solve.Reads as zp-solve
 use Rattle.boundary.proofs.zp_write.Reads as zp-write
 use Rattle.taskwords.specs.Answers.{Answers, changed_length, changed_words, checked_words, task_answer}
-use Rattle.boundary.specs.BoundaryCalls.{AnswersReply, HandsRecord, ReadsTask, WritesTask, ChecksRun, AppliesList, SolvesTask, OpensSession, EditsSession, ListsSession, ListsInput}
+use Rattle.boundary.specs.BoundaryCalls.{AnswersReply}
 use Rattle.taskwords.specs.Words.{task_in, lent_back}
 use Rattle.apply.proofs.ApplyLaws.{applies_unformed, applies_unique}
 use Rattle.apply.specs.Applying.{first_wrong}
@@ -37,11 +37,11 @@ use Rattle.table.proofs.Formation.{well_formed}
 use Rattle.table.specs.Answer.{Permitted}
 use Rattle.table.specs.Asks.{AsksNothing}
 use Rattle.table.specs.Outcomes.{Outcome, refusal, refused}
-use Rattle.table.specs.Tasks.{cells_of, formed, WellFormed}
+use Rattle.table.specs.Tasks.{cells_of, formed, WellFormed, no_task}
 use Rattle.table.specs.declared.Reply.{Reply}
 use Rattle.table.specs.declared.Task.{Task}
 use Rattle.taskformat.specs.Format.{file_of}
-use Rattle.taskformat.specs.Reading.{no_task, Marks}
+use Rattle.taskformat.specs.Reading.{Marks}
 use Rattle.taskwriter.proofs.WritingLaws.{written_unformed}
 use Rattle.promises.proofs.Demands.{Refused}
 use Rattle.promises.proofs.BadInputLaws.{Listed, FileNumber, bad_file, read_number, record_number, check_malformed, check_outside, check_number, apply_number, open_number, edit_number, bad_list, open_refused, edit_refused, write_fair, solve_fair, list_fair, listing_fair}
@@ -222,7 +222,6 @@ changed_said ws a n place h only =
 -- ---- the theorems
 
 rooms : AnswerRooms
-unfolding HandsRecord ReadsTask WritesTask ChecksRun AppliesList SolvesTask OpensSession EditsSession ListsSession ListsInput
 rooms = record {
   record_room = λ file at answer o g.
       room_of (zp_record_gives file at answer o g) (λ words e. omega (arith, ap (λ w. get_or w 0 0) e, record_number file at));
@@ -245,13 +244,11 @@ edited_said : (ws : List ℕ) (kind whose fact present : ℕ) (table answer : Li
     → ZpEditGives ws kind whose fact present table answer o → (n : ℕ) → 0 < n
     → edit_refusal (task_in ws) table (edit_of kind whose fact present) ≡ record { number = n; place = 0 }
     → Said (n ∷ 0 ∷ []) answer o.0 o.1 × ((o.2 ≡ ws) × (o.3 ≡ table))
-unfolding EditsSession
 edited_said ws kind whose fact present table answer enough o g n h is =
     changed_said ws (zp_edit_gives ws kind whose fact present table answer o g) n 0 h
     (λ y i. let same = edit_refused (task_in ws) table (edit_of kind whose fact present) n h is y i in (same.0, λ e. (e, same.1))) enough
 
 words_bad : (ws : List ℕ) → formed (task_in ws) ≡ false → BadWords ws
-unfolding WritesTask ChecksRun AppliesList SolvesTask OpensSession ListsSession
 words_bad ws h =
     let t = task_in ws in
     record {
@@ -270,7 +267,6 @@ words_bad ws h =
     }
 
 table_bad : (ws table : List ℕ) → WellFormed (task_in ws) → BadTable ws table
-unfolding OpensSession ListsSession
 table_bad ws table w =
     let t = task_in ws in
     let f = well_formed t w in
@@ -285,7 +281,6 @@ table_bad ws table w =
 
 file_bad : (file : List ℕ) → ((t : Task) → WellFormed t → file ≡ file_of t → ⊥) → (answer : List ℕ) → 670 ≤ length answer → (o : Alone)
     → ZpReadGives file answer o → (0 < o.0) × FileNumber o.0 × ((place : ℕ) × Marks file o.0 place × (o.1 ≡ task_answer o.0 place no_task ++ drop 670 answer))
-unfolding ReadsTask
 file_bad file none answer n o g =
     let x = (zp_read_gives file answer o g).given n in
     let y = x.2.0 in
@@ -302,7 +297,6 @@ file_bad file none answer n o g =
     )
 
 pub boundary_demand : BoundaryDemand
-unfolding WritesTask ChecksRun AppliesList SolvesTask OpensSession EditsSession ListsSession ListsInput
 boundary_demand = record {
   defined = record {
     record_asks = zp_record_asks_nothing;

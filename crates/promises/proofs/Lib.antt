@@ -3,6 +3,7 @@ pub mod CertificateLaws
 pub mod BenchSheet
 pub mod Unique
 pub mod UniqueBoundary
+pub mod Results
 pub mod BadInputLaws
 pub mod FileLaws
 pub mod SolvedLaws

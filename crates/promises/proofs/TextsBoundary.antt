@@ -13,7 +13,6 @@ use Rattle.boundary.proofs.texts.zp_read_domain.Reads as zp-read-domain
 use Rattle.boundary.proofs.texts.zp_read_problem.Reads as zp-read-problem
 use Rattle.boundary.proofs.texts.zp_write_domain.Reads as zp-write-domain
 use Rattle.boundary.proofs.texts.zp_write_problem.Reads as zp-write-problem
-use Rattle.boundary.specs.BoundaryCalls.{WritesDomain, WritesProblem, HandsDomain, HandsProblem, AddsRun}
 use Rattle.pddl.proofs.ReadBack.{reads_problem_once}
 use Rattle.pddl.specs.Readings.{IsDomain, IsProblem, no_size}
 use Rattle.pddl.specs.declared.ProblemReply.{ProblemReply}
@@ -73,7 +72,6 @@ pub record TextsThere : Type 0 where
       → Refused o.0 → o.2 ≡ ws
 
 pub texts_there : TextsThere
-unfolding WritesDomain WritesProblem HandsDomain HandsProblem AddsRun
 texts_there = record {
   write_domain_asks = zp_write_domain_asks_nothing;
   write_problem_asks = zp_write_problem_asks_nothing;

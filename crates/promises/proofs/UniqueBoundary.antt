@@ -8,7 +8,7 @@ use denote.Ref.{Bor}
 use Rattle.taskwords.proofs.AnsweringLaws.{answers_one}
 use Rattle.boundary.proofs.Called.{ZpRecordGives, zp_record_gives, ZpReadGives, zp_read_gives, ZpWriteGives, zp_write_gives, ZpCheckGives, zp_check_gives, ZpApplyGives, zp_apply_gives, ZpSolveGives, zp_solve_gives, ZpOpenGives, zp_open_gives, ZpEditGives, zp_edit_gives, ZpListGives, zp_list_gives, ZpListingGives, zp_listing_gives, ZpWriteDomainGives, zp_write_domain_gives, ZpWriteProblemGives, zp_write_problem_gives, ZpReadDomainGives, zp_read_domain_gives, ZpReadProblemGives, zp_read_problem_gives, ZpAddRunGives, zp_add_run_gives}
 use Rattle.taskwords.specs.Answers.{Answers, changed_words, reply_words, problem_words, checked_words, record_words, task_answer}
-use Rattle.boundary.specs.BoundaryCalls.{Nothing, AnswersOutcome, HandsRecord, ReadsTask, WritesTask, ChecksRun, AppliesList, SolvesTask, OpensSession, EditsSession, ListsSession, ListsInput, WritesDomain, WritesProblem, HandsDomain, HandsProblem, AddsRun}
+use Rattle.boundary.specs.BoundaryCalls.{Nothing, AnswersOutcome}
 use Rattle.taskwords.specs.Words.{task_in, lent_back}
 use Rattle.addrun.specs.Adding.{run_added}
 use Rattle.apply.proofs.ApplyLaws.{applies_unique}
@@ -95,46 +95,37 @@ left_as_told ws same a b = a ∙ ap (λ (y : TaskReply). lent_back ws y.number y
 
 -- zp_record, zp_check: the answer's words are the definition's
 pub zp_record_unique : (file : List ℕ) (at : ℕ) (answer : List ℕ) → Determined (ZpRecordGives file at answer)
-unfolding HandsRecord
 zp_record_unique file at answer = one_given (zp_record_gives file at answer) (alone (equation (record_words (record_at file at))))
 
 pub zp_check_unique : (ws : List ℕ) (run : ℕ) (answer : List ℕ) → Determined (ZpCheckGives ws run answer)
-unfolding ChecksRun
 zp_check_unique ws run answer = one_given (zp_check_gives ws run answer) (alone (equation (checked_words (checked (task_in ws) run))))
 
 -- zp_read: the words of the one task that is read
 pub zp_read_unique : (file answer : List ℕ) → Determined (ZpReadGives file answer)
-unfolding ReadsTask
 zp_read_unique file answer =
     let out : TaskReply → List ℕ = λ y. task_answer y.number y.place y.task in
     one_given (zp_read_gives file answer) (alone (λ u v x y. x.2 ∙ ap out (reads_unique x.1 y.1) ∙ sym y.2))
 
 -- zp_write, zp_solve, zp_list, zp_listing: the reply's words, and the room afterwards
 pub zp_write_unique : (ws room answer : List ℕ) → Determined (ZpWriteGives ws room answer)
-unfolding WritesTask
 zp_write_unique ws room answer = one_given (zp_write_gives ws room answer) (filling (equation (written (task_in ws) room)))
 
 pub zp_solve_unique : (ws room answer : List ℕ) → Determined (ZpSolveGives ws room answer)
-unfolding SolvesTask
 zp_solve_unique ws room answer = one_given (zp_solve_gives ws room answer) (filling (solve_unique (task_in ws) room))
 
 pub zp_list_unique : (ws table room answer : List ℕ) → Determined (ZpListGives ws table room answer)
-unfolding ListsSession
 zp_list_unique ws table room answer = one_given (zp_list_gives ws table room answer) (filling (equation (listed (task_in ws) table room)))
 
 pub zp_listing_unique : (input room answer : List ℕ) → Determined (ZpListingGives input room answer)
-unfolding ListsInput
 zp_listing_unique input room answer = one_given (zp_listing_gives input room answer) (filling (λ r q. listing_unique {input = input} {room = room}))
 
 -- zp_open: the reply's words, and the table afterwards
 pub zp_open_unique : (ws table answer : List ℕ) → Determined (ZpOpenGives ws table answer)
-unfolding OpensSession
 zp_open_unique ws table answer =
     one_given (zp_open_gives ws table answer) (lending (Opens (task_in ws) table) reply_words (equation table) (open_determined (task_in ws) table))
 
 -- zp_apply: number and place, and the task's words afterwards
 pub zp_apply_unique : (ws list answer : List ℕ) → Determined (ZpApplyGives ws list answer)
-unfolding AppliesList
 zp_apply_unique ws list answer =
     one_given (zp_apply_gives ws list answer)
     (lending (λ y left. Applies (task_in ws) list y × (left ≡ lent_back ws y.number y.task))
@@ -146,7 +137,6 @@ zp_apply_unique ws list answer =
 -- zp_edit: number and place, the task's words and the table afterwards
 pub zp_edit_unique : (ws : List ℕ) (kind whose fact present : ℕ) (table answer : List ℕ)
     → Determined (ZpEditGives ws kind whose fact present table answer)
-unfolding EditsSession
 zp_edit_unique ws kind whose fact present table answer r q a b =
     let told = zp_edit_gives ws kind whose fact present table answer in
     let e = edit_of kind whose fact present in
@@ -164,30 +154,25 @@ zp_edit_unique ws kind whose fact present table answer r q a b =
 
 -- zp_write_domain, zp_write_problem: the reply's words, and the room afterwards
 pub zp_write_domain_unique : (ws room answer : List ℕ) → Determined (ZpWriteDomainGives ws room answer)
-unfolding WritesDomain
 zp_write_domain_unique ws room answer = one_given (zp_write_domain_gives ws room answer) (filling (equation (domain_written (task_in ws) room)))
 
 pub zp_write_problem_unique : (ws : List ℕ) (run : ℕ) (room answer : List ℕ) → Determined (ZpWriteProblemGives ws run room answer)
-unfolding WritesProblem
 zp_write_problem_unique ws run room answer =
     one_given (zp_write_problem_gives ws run room answer) (filling (equation (problem_written (task_in ws) run room)))
 
 -- zp_read_domain, zp_read_problem: the words of the one table, and of the one start and goal, that are read
 pub zp_read_domain_unique : (text : List ℕ) (limit : ℕ) (answer : List ℕ) → Determined (ZpReadDomainGives text limit answer)
-unfolding HandsDomain
 zp_read_domain_unique text limit answer =
     let out : TaskReply → List ℕ = λ y. task_answer y.number y.place y.task in
     one_given (zp_read_domain_gives text limit answer) (alone (λ u v x y. x.2 ∙ ap out (reads_domain_once x.1 y.1) ∙ sym y.2))
 
 pub zp_read_problem_unique : (text : List ℕ) (facts : ℕ) (answer : List ℕ) → Determined (ZpReadProblemGives text facts answer)
-unfolding HandsProblem
 zp_read_problem_unique text facts answer =
     let out : ProblemReply → List ℕ = λ y. problem_words y.number y.place y.start y.goal in
     one_given (zp_read_problem_gives text facts answer) (alone (λ u v x y. x.2 ∙ ap out (reads_problem_once x.1 y.1) ∙ sym y.2))
 
 -- zp_add_run: number and place, and the task's words afterwards
 pub zp_add_run_unique : (ws : List ℕ) (start goal : ℕ) (steps answer : List ℕ) → Determined (ZpAddRunGives ws start goal steps answer)
-unfolding AddsRun
 zp_add_run_unique ws start goal steps answer =
     one_given (zp_add_run_gives ws start goal steps answer)
     (lending (λ y left. (y ≡ run_added (task_in ws) start goal steps) × (left ≡ lent_back ws y.number y.task))

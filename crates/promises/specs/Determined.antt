@@ -10,3 +10,7 @@ Determined {A} Allowed = (r q : A) → Allowed r → Allowed q → r ≡ q
 pub record Only {A : Type 0} (Allowed : A → Type 0) (r : A) : Type 0 where
   pub allowed : Allowed r
   pub others : (q : A) → Allowed q → q ≡ r
+
+-- What is told of results tells them apart.
+abbrev pub Tells : {R N : Type 0} → (R → N) → Type 0
+Tells {R} told = (r q : R) → told r ≡ told q → r ≡ q

@@ -15,16 +15,16 @@ use prog.Memory.{Memory}
 use prog.Routine.{Routine}
 use Rattle.table.proofs.ContractLaws.{call_keeps}
 use Rattle.table.specs.Asks.{Call, AsksNothing}
-use Rattle.records.specs.Records.{record_at, body_of}
-use Rattle.records.specs.declared.record.Record.{Record}
-use Rattle.recordreader.specs.contracts.body as body
-use Rattle.recordreader.specs.contracts.moved_on as moved_on
-use Rattle.recordreader.specs.contracts.new as new
-use Rattle.recordreader.specs.contracts.next as next
-use Rattle.recordreader.proofs.body.Reads as body-reads
-use Rattle.recordreader.proofs.moved_on.Reads as moved_on-reads
-use Rattle.recordreader.proofs.new.Reads as new-reads
-use Rattle.recordreader.proofs.next.Reads as next-reads
+use Rattle.records.specs.Records.{record_at, record_told, body_of}
+use Rattle.records.specs.declared.record.RecordReply.{RecordReply}
+use Rattle.recordreader.specs.contracts.Reader.body as body
+use Rattle.recordreader.specs.contracts.Reader.moved_on as moved_on
+use Rattle.recordreader.specs.contracts.Reader.new as new
+use Rattle.recordreader.specs.contracts.Reader.next as next
+use Rattle.recordreader.proofs.Reader.body.Reads as body-reads
+use Rattle.recordreader.proofs.Reader.moved_on.Reads as moved_on-reads
+use Rattle.recordreader.proofs.Reader.new.Reads as new-reads
+use Rattle.recordreader.proofs.Reader.next.Reads as next-reads
 use Rattle.recordreader.proofs.place_after.Reads as place_after
 use Rattle.recordreader.specs.Places.{place_after}
 use Rattle.recordreader.specs.declared.Reader.{Reader}
@@ -35,7 +35,7 @@ use Rattle.recordreader.specs.declared.Reader.{Reader}
 abbrev pub NewGives : Bor (List ℕ) → Reader → Type 0
 NewGives file r = (r.file ≡ file) × (r.at ≡ 0)
 
-abbrev pub NextGives : Reader → Record → Type 0
+abbrev pub NextGives : Reader → RecordReply → Type 0
 NextGives d f = f ≡ record_at d.file.now d.at
 
 abbrev pub ReaderBodyGives : Reader → Bor (List ℕ) → Type 0
@@ -48,7 +48,7 @@ module _ {M : Type 1} {𝓤 : Ura M} (𝓛 : Logic 𝓤) (mem : Memory → SProp
   new_says : (a : _) (g : _) (r : _) (e : _) → (new.clauses 𝓛 mem run κs a).ensures g r e ≡ fact 𝓤 (NewGives a.0 r)
   new_says a g r e = refl
 
-  next_says : (a : _) (g : _) (f : _) (e : _) → (next.clauses 𝓛 mem run κs a).ensures g f e ≡ fact 𝓤 (NextGives a.0 f)
+  next_says : (a : _) (g : _) (f : _) (e : _) → (next.clauses 𝓛 mem run κs a).ensures g f e ≡ fact 𝓤 (NextGives a.0 (record_told f))
   next_says a g f e = refl
 
   body_says : (a : _) (g : _) (b : _) (e : _) → (body.clauses 𝓛 mem run κs a).ensures g b e ≡ fact 𝓤 (ReaderBodyGives a.0 b)
@@ -74,7 +74,7 @@ module _ {M : Type 1} {𝓤 : Ura M} (𝓛 : Logic 𝓤) (mem : Memory → SProp
 pub new_gives : (file : Bor (List ℕ)) (r : Reader) → Call {I = Bor (List ℕ)} {O = Reader} new-reads.Post (λ a. a.0) (λ r b. r) file r → NewGives file r
 new_gives file r = call_keeps NewGives (λ k a r b p. p) file r
 
-pub next_gives : (d : Reader) (f : Record) → Call {I = Reader} {O = Record} next-reads.Post (λ a. a.0) (λ r b. r) d f → NextGives d f
+pub next_gives : (d : Reader) (f : RecordReply) → Call {I = Reader} {O = RecordReply} next-reads.Post (λ a. a.0) (λ r b. record_told r) d f → NextGives d f
 next_gives d f = call_keeps NextGives (λ k a r b p. p) d f
 
 pub body_gives : (d : Reader) (b : Bor (List ℕ)) → Call {I = Reader} {O = Bor (List ℕ)} body-reads.Post (λ a. a.0) (λ r b. r) d b → ReaderBodyGives d b

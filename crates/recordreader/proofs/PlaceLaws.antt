@@ -5,15 +5,15 @@ use Prim.Native.Nat.{ℕ}
 use borrow.Author.Tests.{eq-eqb, ne_eqb}
 use Rattle.table.specs.Refusals.{accepted}
 use Rattle.records.specs.Records.{record_at}
-use Rattle.records.specs.declared.record.Record.{Record}
+use Rattle.records.specs.declared.record.RecordReply.{RecordReply}
 use Rattle.recordreader.specs.Places.{place_after}
 use Rattle.recordreader.specs.declared.Reader.{Reader}
 
-pub good_record_next : (s : List ℕ) (at : ℕ) (f : Record) → f ≡ record_at s at → f.number ≡ accepted → f.next ≡ place_after s at
+pub good_record_next : (s : List ℕ) (at : ℕ) (f : RecordReply) → f ≡ record_at s at → f.number ≡ accepted → f.next ≡ place_after s at
 unfolding place_after
 good_record_next s at f e good = rw (← e, eq-eqb f.number accepted good)
 
-pub refused_record_stays : (s : List ℕ) (at : ℕ) (f : Record) → f ≡ record_at s at → (f.number ≡ accepted → ⊥) → at ≡ place_after s at
+pub refused_record_stays : (s : List ℕ) (at : ℕ) (f : RecordReply) → f ≡ record_at s at → (f.number ≡ accepted → ⊥) → at ≡ place_after s at
 unfolding place_after
 refused_record_stays s at f e refused = rw (← e, ne_eqb f.number accepted refused)
 

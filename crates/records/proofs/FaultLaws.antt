@@ -1,108 +1,108 @@
--- What the first fault of a record is, test by test, and where it is. Assumes nothing.
-use mathlib.Core.Bool.{Bool, true, false, cond, ◌&&◌}
+-- What the first fault of a record is, check by check in 01's order, and at which byte. Assumes nothing.
+use mathlib.Core.Bool.{Bool, true, false, cond, ◌||◌, ◌&&◌}
 use mathlib.Core.List.{List, [], ◌∷◌}
-use mathlib.Core.Logic.{⊎_elim}
-use mathlib.Core.Path.{◌≡◌, refl, sym, ap, ◌∙◌}
-use Prim.Native.Nat.{ℕ, ◌+◌, ◌-◌, ◌<◌}
-use native.Mathlib.Omega.{arith}
-use borrow.Author.Tests.{ne_eqb}
+use mathlib.Core.Path.{◌≡◌, refl, ap, ◌∙◌}
+use Prim.Native.Nat.{ℕ, ◌+◌, ◌-◌, ◌<◌, ◌≤◌}
+use borrow.Author.Tests.{le-leb, lt-leb, lt-ltb, le-ltb}
 use lib.Dec.{eqb, leb}
-use lib.ListN.{length, get_or, replicate, get_or-replicate}
-use Rattle.table.proofs.RefusalLaws.{first_placed}
-use Rattle.table.specs.Refusals.{refuse_at, first_of, accepted, size_outside, number_outside, not_ascending, too_many_runs, lock_without_need, too_many_steps}
-use Rattle.table.specs.Sizes.{max_runs, max_steps}
-use Rattle.taskformat.specs.Format.{sizes_kind, step_kind, run_kind}
-use Rattle.taskformat.specs.Reading.{Seen, kind_at, byte_at, body_at, sizes_wrong, outside, misplaced, disordered, lock_stray, wrong_byte, place_of, faults_at, fault_at}
-use Rattle.taskformat.proofs.Places.{fault_marks}
-use Rattle.records.specs.Records.{seen_with, seen_of, seen_by, body_faults}
-use Rattle.records.specs.declared.known.Known.{Known}
+use lib.ListN.{length, take, drop, get_or}
+use Rattle.std.proofs.lemmas.List.{get_or-drop, length-drop}
+use Rattle.std.proofs.Math.Seq.{take-length}
+use native.Mathlib.Nat.{add-zero}
+use Rattle.table.specs.declared.Table.{Table}
+use Rattle.table.specs.Refusals.{refuse_at, first_of, no_end, unknown_kind, sizes_misplaced, size_outside, number_outside, not_ascending, too_many_runs, lock_without_need, too_many_steps}
+use Rattle.table.specs.Sizes.{max_runs}
+use Rattle.taskformat.specs.Format.{sizes_kind, run_kind, is_kind, body_length}
+use Rattle.taskformat.specs.Reading.{Seen, kind_at, byte_at, body_at, next_at, misplaced, sizes_wrong, first_outside, outside, kind_disordered, disordered, lock_stray, wrong_byte, place_of, faults_at, fault_at}
+use Rattle.records.specs.declared.kinds.Kind.{Kind}
+use Rattle.records.specs.declared.parts.Parts.{Parts}
+use Rattle.records.specs.Kinds.{kind_number}
+use Rattle.records.specs.Records.{second_outside, body_disordered, full, body_checks, Says}
+use Rattle.records.proofs.RecordLaws.{number_known}
 
--- A fault is at the place that its number has: without one 0, and else at the byte that is wrong.
-module _ (s : List ℕ) (at : ℕ) (seen : Seen) where
-  fault_place : (fault_at s at seen).place ≡ place_of (fault_at s at seen).number s at seen
-  unfolding faults_at place_of
-  fault_place =
-      first_placed (λ n. place_of n s at seen) (faults_at s at seen) refl (refl, (refl, (refl, (refl, (refl, (refl, (refl, (refl, (refl, (refl, tt))))))))))
-
-  pub no_place : {n : ℕ} → n ≡ (fault_at s at seen).number → n ≡ accepted → 0 ≡ (fault_at s at seen).place
-  unfolding place_of
-  no_place is none = sym (fault_place ∙ ap (λ (m : ℕ). place_of m s at seen) (sym is ∙ none))
-
-  pub marked_place : {n b : ℕ} → n ≡ (fault_at s at seen).number → (n ≡ accepted → ⊥) → b ≡ wrong_byte n s at seen → at + b ≡ (fault_at s at seen).place
-  unfolding place_of
-  marked_place {n} is some wrong = sym (fault_place ∙ ap (λ (m : ℕ). place_of m s at seen) (sym is) ∙ rw (ne_eqb n accepted some, wrong))
-
-  -- It is below any bound of the record's start and of the file's length.
-  pub place_below : (m : ℕ) → at < m → length s < m → ((fault_at s at seen).number ≡ accepted → ⊥) → (fault_at s at seen).place < m
-  place_below m start end some = ⊎_elim (λ cut. omega (arith, cut.1)) (λ there. omega arith) (fault_marks s at seen (omega arith))
-
--- The count of the last run is the one that is known.
-last_count : (k : Known) → get_or (replicate (k.runs + 1) k.count) (k.runs - 1) 0 ≡ k.count
-last_count k = get_or-replicate (k.runs + 1) (k.runs - 1) k.count 0 (omega arith)
-
--- A fault looks at no array, but for that count and the needs.
-pub numbers_decide : (s : List ℕ) (at : ℕ) (k : Known) (n a d l b g c t : List ℕ) → get_or c (k.runs - 1) 0 ≡ k.count
-    → fault_at s at (seen_with k n a d l b g c t) ≡ fault_at s at (seen_by k n)
-unfolding faults_at wrong_byte place_of misplaced outside disordered
-numbers_decide s at k n a d l b g c t counted = rw (counted, last_count k)
-
--- The number of the first check of a body, over the values that the code tests.
-abbrev pub body_number : ℕ → ℕ → ℕ → Bool → Bool → Bool → Bool → ℕ
-body_number kind runs count wrong beyond down stray =
-    cond (eqb kind sizes_kind && wrong) size_outside
-    (cond beyond number_outside
-    (cond down not_ascending
-    (cond (eqb kind run_kind && leb max_runs runs) too_many_runs
-    (cond stray lock_without_need (cond (eqb kind step_kind && leb max_steps count) too_many_steps accepted)))))
-
-first_of_six : (a b c d e f : Bool) (o p q u v w : ℕ)
-    → (first_of (refuse_at o a size_outside ∷ refuse_at p b number_outside ∷ refuse_at q c not_ascending ∷ refuse_at u d too_many_runs ∷ refuse_at v e lock_without_need ∷ refuse_at w f too_many_steps ∷ [])).number ≡
-    cond a size_outside (cond b number_outside (cond c not_ascending (cond d too_many_runs (cond e lock_without_need (cond f too_many_steps accepted)))))
+-- 5 and 6 are two checks each, by the byte that is wrong; n + 0 is n.
+by_byte : (at n : ℕ) (a b c d e f g h : Bool) → n ≡ at
+    → first_of
+    (refuse_at at a size_outside ∷
+    refuse_at (at + 1) b number_outside ∷
+    refuse_at (at + 2) c number_outside ∷
+    refuse_at at d not_ascending ∷
+    refuse_at (at + 1) e not_ascending ∷
+    refuse_at at f too_many_runs ∷
+    refuse_at at g lock_without_need ∷
+    refuse_at at h too_many_steps ∷
+    []) ≡
+    first_of
+    (refuse_at n a size_outside ∷
+    refuse_at (at + cond b 1 2) (b || c) number_outside ∷
+    refuse_at (at + cond d 0 1) (d || e) not_ascending ∷
+    refuse_at n f too_many_runs ∷
+    refuse_at n g lock_without_need ∷
+    refuse_at n h too_many_steps ∷
+    [])
 unfolding first_of
-first_of_six true b c d e f o p q u v w = refl
-first_of_six false true c d e f o p q u v w = refl
-first_of_six false false true d e f o p q u v w = refl
-first_of_six false false false true e f o p q u v w = refl
-first_of_six false false false false true f o p q u v w = refl
-first_of_six false false false false false true o p q u v w = refl
-first_of_six false false false false false false o p q u v w = refl
+by_byte at n true b c d e f g h same = rw same
+by_byte at n false true c d e f g h same = refl
+by_byte at n false false true d e f g h same = refl
+by_byte at n false false false true e f g h same = rw add-zero
+by_byte at n false false false false true f g h same = refl
+by_byte at n false false false false false f g h same = rw same
 
-pub body_tested : (s : List ℕ) (at : ℕ) (k : Known) (needs : List ℕ) {kind x y z body : ℕ} {wrong beyond down stray : Bool}
-    → kind ≡ kind_at s at → x ≡ byte_at s at 0 → y ≡ byte_at s at 1 → z ≡ byte_at s at 2 → body ≡ body_at s at
-    → wrong ≡ sizes_wrong x y z → beyond ≡ outside (seen_of k).task.table kind x y → down ≡ disordered (seen_of k) kind body
-    → stray ≡ lock_stray needs kind x y
-    → (first_of (body_faults s at (seen_by k needs))).number ≡ body_number kind k.runs k.count wrong beyond down stray
-unfolding body_faults faults_at outside disordered
-body_tested s at k needs is a b c d w o n l =
-    let seen = seen_by k needs in
-    rw (l, n, o, w, d, c, b, a, is, last_count k)
-    (first_of_six (eqb (kind_at s at) sizes_kind && sizes_wrong (byte_at s at 0) (byte_at s at 1) (byte_at s at 2))
-    (outside seen.task.table (kind_at s at) (byte_at s at 0) (byte_at s at 1)) (disordered seen (kind_at s at) (body_at s at))
-    (eqb (kind_at s at) run_kind && leb max_runs k.runs) (lock_stray needs (kind_at s at) (byte_at s at 0) (byte_at s at 1))
-    (eqb (kind_at s at) step_kind && leb max_steps k.count) (place_of size_outside s at seen) (place_of number_outside s at seen)
-    (place_of not_ascending s at seen) (place_of too_many_runs s at seen) (place_of lock_without_need s at seen) (place_of too_many_steps s at seen))
+module _ (s : List ℕ) (at : ℕ) (seen : Seen) where
+  abbrev Fault : ℕ → Type 0
+  Fault n = record { number = n; place = at } ≡ fault_at s at seen
 
-module _ (kind runs count : ℕ) (wrong beyond down stray : Bool) where
-  pub number_of_sizes : (eqb kind sizes_kind && wrong) ≡ true → body_number kind runs count wrong beyond down stray ≡ size_outside
-  number_of_sizes a = rw a
+  pub past_the_end : length s ≤ at → Fault no_end
+  unfolding faults_at first_of place_of wrong_byte
+  past_the_end h = rw (le-leb (length s) at h, add-zero)
 
-  pub number_of_outside : (eqb kind sizes_kind && wrong) ≡ false → beyond ≡ true → body_number kind runs count wrong beyond down stray ≡ number_outside
-  number_of_outside a b = rw (a, b)
+  module _ (begun : at < length s) where
+    pub unknown : is_kind (kind_at s at) ≡ false → Fault unknown_kind
+    unfolding faults_at first_of place_of wrong_byte
+    unknown k = rw (lt-leb (length s) at begun, k, add-zero)
 
-  pub number_of_order : (eqb kind sizes_kind && wrong) ≡ false → beyond ≡ false → down ≡ true
-      → body_number kind runs count wrong beyond down stray ≡ not_ascending
-  number_of_order a b c = rw (a, b, c)
+    module _ (k : Kind) (is : kind_number k ≡ kind_at s at) where
+      known : is_kind (kind_at s at) ≡ true
+      known = rw (← is) (number_known k)
 
-  pub number_of_runs : (eqb kind sizes_kind && wrong) ≡ false → beyond ≡ false → down ≡ false → (eqb kind run_kind && leb max_runs runs) ≡ true
-      → body_number kind runs count wrong beyond down stray ≡ too_many_runs
-  number_of_runs a b c d = rw (a, b, c, d)
+      pub placed_wrong : misplaced seen (kind_number k) ≡ true → Fault sizes_misplaced
+      unfolding faults_at first_of place_of wrong_byte
+      placed_wrong m = rw (lt-leb (length s) at begun, known, ← is, m, add-zero)
 
-  pub number_of_lock : (eqb kind sizes_kind && wrong) ≡ false → beyond ≡ false → down ≡ false
-      → (eqb kind run_kind && leb max_runs runs) ≡ false → stray ≡ true
-      → body_number kind runs count wrong beyond down stray ≡ lock_without_need
-  number_of_lock a b c d e = rw (a, b, c, d, e)
+      module _ (placed : misplaced seen (kind_number k) ≡ false) where
+        pub cut_short : length s < at + 1 + body_length (kind_number k) → Fault no_end
+        unfolding faults_at first_of place_of wrong_byte
+        cut_short h = rw (lt-leb (length s) at begun, known, ← is, placed, lt-ltb (length s) (at + 1 + body_length (kind_number k)) h, add-zero)
 
-  pub number_of_last : (e : Bool) → (eqb kind sizes_kind && wrong) ≡ false → beyond ≡ false → down ≡ false
-      → (eqb kind run_kind && leb max_runs runs) ≡ false → stray ≡ false → (eqb kind step_kind && leb max_steps count) ≡ e
-      → body_number kind runs count wrong beyond down stray ≡ cond e too_many_steps accepted
-  number_of_last e a b c d l f = rw (a, b, c, d, l, f)
+        pub whole : (p : Parts) → Says s at p → at + 1 + body_length (kind_number k) ≤ length s
+            → first_of (body_checks at seen (kind_number p.kind) p.first p.second p.third) ≡ fault_at s at seen
+        unfolding faults_at first_of place_of wrong_byte body_checks outside disordered body_at
+        whole p said h =
+            let kind : ℕ = kind_at s at in
+            let x : ℕ = byte_at s at 0 in
+            let y : ℕ = byte_at s at 1 in
+            let table : Table = seen.task.table in
+            let here : misplaced seen (kind) ≡ false = rw (← is) placed in
+            let fits : at + 1 + body_length (kind) ≤ length s = rw (← is) h in
+            rw (said.kind, said.first, said.second, said.third, lt-leb (length s) at begun, known, here, le-ltb (length s) (next_at s at) (fits))
+            (by_byte at (at + 0) (eqb (kind) sizes_kind && sizes_wrong (x) (y) (byte_at s at 2)) (first_outside (table) (kind) (x)) (second_outside (table) (kind) (y))
+            (kind_disordered seen (kind)) (body_disordered seen (kind) (x) (y)) (eqb (kind) run_kind && leb max_runs seen.task.runs.many)
+            (lock_stray (table).needs (kind) (x) (y)) (full seen (kind)) (add-zero at))
+
+-- What stands behind the kind byte, and what the code read of a record: its kind, and its body from there.
+module _ (s : List ℕ) (at : ℕ) where
+  abbrev behind : List ℕ
+  behind = take (length s - (at + 1)) (drop (at + 1) s)
+
+  is_rest : behind ≡ drop (at + 1) s
+  is_rest = rw (← length-drop (at + 1) s) (take-length (drop (at + 1) s))
+
+  pub left : length behind ≡ length s - (at + 1)
+  left = ap (λ (l : List ℕ). length l) is_rest ∙ length-drop (at + 1) s
+
+  byte : (i : ℕ) → get_or behind i 0 ≡ byte_at s at i
+  byte i = ap (λ (l : List ℕ). get_or l i 0) is_rest ∙ get_or-drop (at + 1) s i 0
+
+  pub says : (k : Kind) (p : Parts) → kind_number k ≡ kind_at s at
+      → p ≡ record { kind = k; first = get_or behind 0 0; second = get_or behind 1 0; third = get_or behind 2 0 } → Says s at p
+  says k p is read = rw read (record { kind = is; first = byte 0; second = byte 1; third = byte 2 })

@@ -1,34 +1,33 @@
 // The first fault of the record at a place (document 01, "Refusal numbers": "within it 1 (no kind byte), 2, 3, 1 (short
 // body), 4, 5, 6, 7"; 02, request 1: 16 "after 6 and before 7"; 02, request 6: 18 "after 6 and 16"), and which of its bytes is
 // wrong (02, request 2).
-ghost use Rattle.std.specs.Prelude.{◌≡◌};
+ghost use Rattle.std.specs.Prelude.{◌≡◌, ◌+◌, ◌<◌, ◌^◌};
 ghost use Rattle.table.specs.Refusals.{first_of};
-ghost use Rattle.taskformat.specs.Reading.{misplaced, sizes_wrong, first_outside, outside, kind_disordered, disordered, lock_stray, wrong_byte, fault_at};
-ghost use Rattle.records.specs.Records.{seen_of, seen_by, body_faults};
+ghost use Rattle.table.specs.Outcomes.{fault_told};
+ghost use Rattle.taskformat.specs.Format.{body_length};
+ghost use Rattle.taskformat.specs.Reading.{misplaced, sizes_wrong, first_outside, kind_disordered, lock_stray};
+ghost use Rattle.records.specs.Kinds.{kind_number};
+ghost use Rattle.records.specs.Records.{seen_of, body_disordered, full, body_checks, Checks};
 
-use crate::known::{Known, last_run};
-use crate::{kinds, parts};
-use table::{ACTIONS, FACTS, LIMIT, RUNS, STEPS, refusals};
-
-// The first fault of a record: its number and its place; 0 and 0 where it is good.
-#[derive(Clone, Copy)]
-pub struct Fault {
-    pub number: usize,
-    pub place: usize,
-}
+use crate::kinds::Kind;
+use crate::parts::Parts;
+use crate::seen::{Seen, last_run};
+use table::refusals::{Refusal, Why};
+use table::{ACTIONS, FACTS, LIMIT, RUNS, STEPS, Table};
 
 // 3: the first kind is not that of the sizes, or the sizes come again.
-fn is_misplaced(known: Known, kind: usize) -> bool
-    ensures { result ≡ misplaced (seen_of known) kind }
+#[tactic(auto, unfolding(taskformat::specs::Reading::misplaced))]
+fn is_misplaced(seen: &Seen, kind: Kind) -> bool
+    ensures { result ≡ misplaced (seen_of seen.now) (kind_number kind) }
 {
-    if known.kind == kinds::NONE {
-        kind != kinds::SIZES
-    } else {
-        kind == kinds::SIZES
+    match seen.kind {
+        None => kind != Kind::Sizes,
+        Some(_) => kind == Kind::Sizes,
     }
 }
 
 // 4: a size is out of range.
+#[tactic(auto, unfolding(taskformat::specs::Reading::sizes_wrong))]
 fn sizes_wrong(f: usize, a: usize, l: usize) -> bool
     ensures { result ≡ sizes_wrong f a l }
 {
@@ -36,141 +35,118 @@ fn sizes_wrong(f: usize, a: usize, l: usize) -> bool
 }
 
 // 5: the first number of a body is outside: the fact of a start or goal, the action of a cell or step.
-fn is_first_outside(known: Known, kind: usize, x: usize) -> bool
-    ensures { result ≡ first_outside (seen_of known).task.table kind x }
+fn is_first_outside(table: &Table, kind: Kind, x: usize) -> bool
+    ensures { result ≡ first_outside table.now (kind_number kind) x }
 {
-    (kinds::is_fact_kind(kind) & (known.facts <= x))
-        | ((kinds::is_cell_kind(kind) | (kind == kinds::STEP)) & (known.actions <= x))
-}
-
-// 5: that, or the fact of a cell.
-fn is_outside(known: Known, kind: usize, x: usize, y: usize) -> bool
-    ensures { result ≡ outside (seen_of known).task.table kind x y }
-{
-    is_first_outside(known, kind, x) | (kinds::is_cell_kind(kind) & (known.facts <= y))
+    (kind.is_fact() & (table.facts <= x))
+        | ((kind.is_cell() | (kind == Kind::Step)) & (table.actions <= x))
 }
 
 // 6: the kind goes down, by its position in a file; a further run never does, and begins the order anew. Or a cell of the table
 // comes after it.
-fn is_kind_disordered(known: Known, kind: usize) -> bool
-    ensures { result ≡ kind_disordered (seen_of known) kind }
+fn is_kind_disordered(seen: &Seen, kind: Kind) -> bool
+    ensures { result ≡ kind_disordered (seen_of seen.now) (kind_number kind) }
 {
-    ((kind != kinds::RUN) & (kinds::position(kind) < kinds::position(known.kind)))
-        | (kinds::is_cell_kind(kind) & (0 < last_run(known.runs)))
+    ((kind != Kind::Run) & (kind.position() < seen.position()))
+        | (kind.is_cell() & (0 < last_run(&seen.task.runs)))
 }
 
-// 6: that, or the body does not ascend.
-fn is_disordered(known: Known, kind: usize, body: usize) -> bool
-    ensures { result ≡ disordered (seen_of known) kind body }
+// 6: the body does not ascend.
+fn is_body_disordered(seen: &Seen, parts: Parts) -> bool
+    ensures { result ≡ body_disordered (seen_of seen.now) (kind_number parts.kind) parts.first parts.second }
 {
-    is_kind_disordered(known, kind)
-        | ((kind == known.kind)
-            & (kinds::is_fact_kind(kind) | kinds::is_cell_kind(kind))
-            & (body <= known.body))
+    seen.repeats(parts.kind)
+        & (parts.kind.is_fact() | parts.kind.is_cell())
+        & (parts.number() <= seen.body)
 }
 
 // 18: a lock on a cell that is not a need (02, request 6); x is the action, y the fact.
-fn is_stray_lock(needs: &[u64], kind: usize, x: usize, y: usize) -> bool
-    ensures { result ≡ lock_stray needs.now kind x y }
+#[tactic(auto, using(facts::proofs::Laws::has_empty), unfolding(taskformat::specs::Reading::lock_stray))]
+fn is_stray_lock(needs: &[u64], kind: Kind, x: usize, y: usize) -> bool
+    ensures { result ≡ lock_stray needs.now (kind_number kind) x y }
 {
-    if kind != kinds::LOCK {
+    if kind != Kind::Lock {
         return false;
     }
-    if needs.len() <= x {
-        return true;
+    match needs.get(x) {
+        Some(&needs) => !facts::contains(needs, y),
+        None => true,
     }
-    !facts::contains(needs[x], y)
 }
 
-// The first of the faults that a whole body can have: 4, 5, 6, 16, 18, 7; 0 where it has none.
-fn body_fault(s: &[u8], at: usize, known: Known, needs: &[u64]) -> usize
-    ensures { result ≡ (first_of (body_faults s.now at (seen_by known needs.now))).number }
+// 7: a step where the run that was opened last is full.
+fn is_step_too_many(seen: &Seen, kind: Kind) -> bool
+    ensures { result ≡ full (seen_of seen.now) (kind_number kind) }
 {
-    let kind = parts::kind_at(s, at);
-    let x = parts::number_at(s, at, 0);
-    let y = parts::number_at(s, at, 1);
-    let z = parts::number_at(s, at, 2);
-    let body = parts::body_number(s, at);
-    let misfit = (kind == kinds::SIZES) & sizes_wrong(x, y, z);
-    let beyond = is_outside(known, kind, x, y);
-    let down = is_disordered(known, kind, body);
-    let stray = is_stray_lock(needs, kind, x, y);
-    let ninth = (kind == kinds::RUN) & (RUNS <= known.runs);
-    let full = (kind == kinds::STEP) & (STEPS <= known.count);
-    if misfit {
-        return refusals::SIZE_OUTSIDE;
+    if kind != Kind::Step {
+        return false;
     }
-    if beyond {
-        return refusals::NUMBER_OUTSIDE;
+    match seen.task.runs.counts.get(last_run(&seen.task.runs)) {
+        Some(&count) => STEPS <= count,
+        None => false,
     }
-    if down {
-        return refusals::NOT_ASCENDING;
-    }
-    if ninth {
-        return refusals::TOO_MANY_RUNS;
-    }
-    if stray {
-        return refusals::LOCK_WITHOUT_NEED;
-    }
-    if full {
-        return refusals::TOO_MANY_STEPS;
-    }
-    refusals::ACCEPTED
 }
 
-// The number of the first fault of the record at a place; 0 where it is good.
-fn fault_number(s: &[u8], at: usize, known: Known, needs: &[u64]) -> usize
-    ensures { result ≡ (fault_at s.now at (seen_by known needs.now)).number }
-{
-    if s.len() <= at {
-        return refusals::NO_END;
-    }
-    let kind = parts::kind_at(s, at);
-    if !kinds::is_kind(kind) {
-        return refusals::UNKNOWN_KIND;
-    }
-    if is_misplaced(known, kind) {
-        return refusals::SIZES_MISPLACED;
-    }
-    if s.len() - at <= kinds::body_length(kind) {
-        return refusals::NO_END;
-    }
-    body_fault(s, at, known, needs)
-}
-
-// The bytes of a record that can be wrong, counted from its start.
-const KIND_BYTE: usize = 0;
-
+// The bytes of a record behind its kind byte that can be wrong, counted from its start.
 const FIRST_BYTE: usize = 1;
 
 const SECOND_BYTE: usize = 2;
 
-// Which byte of the record at a place is wrong, by the number of its fault: of 5 the first number that is outside, of 6 the kind
-// byte if the kind is out of order and the first byte of the body otherwise, of any other the kind byte.
-fn wrong_byte(number: usize, s: &[u8], at: usize, known: Known) -> usize
-    ensures { result ≡ wrong_byte number s.now at (seen_of known) }
+// The first of the faults that a whole body can have, and at which byte.
+#[tactic(auto, unfolding(crate::specs::Records::body_checks, table::specs::Refusals::first_of, taskformat::specs::Format::body_length))]
+fn check_body(at: usize, seen: &Seen, parts: Parts) -> Result<(), Refusal>
+    requires { at + 1 + body_length (kind_number parts.kind) < 2 ^ 64 }
+    ensures { fault_told result ≡ first_of (body_checks at (seen_of seen.now) (kind_number parts.kind) parts.first parts.second parts.third) }
 {
-    let kind = parts::kind_at(s, at);
-    if number == refusals::NUMBER_OUTSIDE {
-        let x = parts::number_at(s, at, 0);
-        let first = is_first_outside(known, kind, x);
-        return if first { FIRST_BYTE } else { SECOND_BYTE };
+    let kind = parts.kind;
+    let table = &seen.task.table;
+    let x = usize::from(parts.first);
+    let y = usize::from(parts.second);
+    if (kind == Kind::Sizes) & sizes_wrong(x, y, usize::from(parts.third)) {
+        return Err(Why::SizeOutside.at(at));
     }
-    if number == refusals::NOT_ASCENDING {
-        let down = is_kind_disordered(known, kind);
-        return if down { KIND_BYTE } else { FIRST_BYTE };
+    if is_first_outside(table, kind, x) {
+        return Err(Why::NumberOutside.at(at + FIRST_BYTE));
     }
-    KIND_BYTE
+    if kind.is_cell() & (table.facts <= y) {
+        return Err(Why::NumberOutside.at(at + SECOND_BYTE));
+    }
+    if is_kind_disordered(seen, kind) {
+        return Err(Why::NotAscending.at(at));
+    }
+    if is_body_disordered(seen, parts) {
+        return Err(Why::NotAscending.at(at + FIRST_BYTE));
+    }
+    if (kind == Kind::Run) & (RUNS <= seen.task.runs.many) {
+        return Err(Why::TooManyRuns.at(at));
+    }
+    if is_stray_lock(&table.needs, kind, x, y) {
+        return Err(Why::LockWithoutNeed.at(at));
+    }
+    if is_step_too_many(seen, kind) {
+        return Err(Why::TooManySteps.at(at));
+    }
+    Ok(())
 }
 
-// The first fault of the record at a place, after records that have said this in numbers, and these needs.
-pub fn fault_at(s: &[u8], at: usize, known: Known, needs: &[u64]) -> Fault
-    ensures { (result.number ≡ (fault_at s.now at (seen_by known needs.now)).number) × (result.place ≡ (fault_at s.now at (seen_by known needs.now)).place) }
+// The record at a place, after records that have said this, or its first fault.
+pub fn check(s: &[u8], at: usize, seen: &Seen) -> Result<Parts, Refusal>
+    ensures { Checks s.now at (seen_of seen.now) result }
 {
-    let number = fault_number(s, at, known, needs);
-    if number == refusals::ACCEPTED {
-        return Fault { number, place: 0 };
+    let Some(&byte) = s.get(at) else {
+        return Err(Why::NoEnd.at(at));
+    };
+    let Some(kind) = Kind::of(byte) else {
+        return Err(Why::UnknownKind.at(at));
+    };
+    if is_misplaced(seen, kind) {
+        return Err(Why::SizesMisplaced.at(at));
     }
-    let place = at + wrong_byte(number, s, at, known);
-    Fault { number, place }
+    let body = &s[at + 1..];
+    if body.len() < kind.body_length() {
+        return Err(Why::NoEnd.at(at));
+    }
+    let parts = Parts::of(kind, body);
+    check_body(at, seen, parts)?;
+    Ok(parts)
 }

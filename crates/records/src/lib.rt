@@ -5,6 +5,6 @@
 
 pub mod fault;
 pub mod kinds;
-pub mod known;
 pub mod parts;
 pub mod record;
+pub mod seen;

@@ -1,50 +1,48 @@
-// The bytes of the record at a place, total: past the end they are 0, as the definitions have them.
-ghost use Rattle.std.specs.Prelude.{◌≡◌};
-ghost use Rattle.taskformat.specs.Reading.{kind_at, byte_at, body_at};
+// The kind of a record and the bytes of its body; past the end they are 0, as the definitions have them.
+ghost use Rattle.std.specs.Prelude.{◌≡◌, get_or};
+ghost use Rattle.records.specs.Kinds.{kind_number};
+ghost use Rattle.records.specs.Records.{number_of_body};
 
-use crate::kinds::is_cell_kind;
+use crate::kinds::Kind;
 
 // How many values a byte has.
 const BYTE: usize = 256;
 
-pub(crate) fn wide(b: u8) -> usize
-    ensures { result ≡ b }
-{
-    b as usize
+#[derive(Clone, Copy, PartialEq, Eq, Debug)]
+pub struct Parts {
+    pub kind: Kind,
+    pub first: u8,
+    pub second: u8,
+    pub third: u8,
 }
 
-// The kind byte at a place; 0, which is no kind, at or past the end.
-pub fn kind_at(s: &[u8], at: usize) -> usize
-    ensures { result ≡ kind_at s.now at }
+fn byte_of(body: &[u8], i: usize) -> u8
+    ensures { result ≡ get_or body.now i 0 }
 {
-    if at < s.len() { wide(s[at]) } else { 0 }
+    body.get(i).copied().unwrap_or(0)
 }
 
-// Byte i behind the kind byte at a place; 0 past the end.
-pub fn byte_at(s: &[u8], at: usize, i: usize) -> u8
-    ensures { result ≡ byte_at s.now at i }
-{
-    if s.len() <= at {
-        return 0;
+impl Parts {
+    pub(crate) fn of(kind: Kind, body: &[u8]) -> Parts
+        ensures { result ≡ record { kind = kind; first = get_or body.now 0 0; second = get_or body.now 1 0; third = get_or body.now 2 0 } }
+    {
+        Parts {
+            kind,
+            first: byte_of(body, 0),
+            second: byte_of(body, 1),
+            third: byte_of(body, 2),
+        }
     }
-    let start = at + 1;
-    if i < s.len() - start { s[start + i] } else { 0 }
-}
 
-pub fn number_at(s: &[u8], at: usize, i: usize) -> usize
-    ensures { result ≡ byte_at s.now at i }
-{
-    wide(byte_at(s, at, i))
-}
-
-// The body of the record at a place as one number, first number first.
-pub fn body_number(s: &[u8], at: usize) -> usize
-    ensures { result ≡ body_at s.now at }
-{
-    let first = wide(byte_at(s, at, 0));
-    if is_cell_kind(kind_at(s, at)) {
-        BYTE * first + wide(byte_at(s, at, 1))
-    } else {
-        first
+    // The body as one number, first number first.
+    pub fn number(self) -> usize
+        ensures { result ≡ number_of_body (kind_number self.kind) self.first self.second }
+    {
+        let first = usize::from(self.first);
+        if self.kind.is_cell() {
+            BYTE * first + usize::from(self.second)
+        } else {
+            first
+        }
     }
 }

@@ -1,2 +1,3 @@
 -- What the contracts of `room` cite.
+pub mod Giving
 pub mod Placing

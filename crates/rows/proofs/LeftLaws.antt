@@ -1,15 +1,13 @@
 -- Laws of the wrong facts that are left to be searched: they are facts of the task, and the lowest of them is taken out. Assumes nothing.
 use mathlib.Core.Bool.{Bool, true, false, not, ◌&&◌, and-true, true≢false}
-use mathlib.Core.Path.{◌≡◌, refl, sym, ap, ◌∙◌}
+use mathlib.Core.Path.{◌≡◌, sym, ap, ◌∙◌}
 use Prim.Native.Nat.{ℕ, ◌^◌, ◌<◌, ◌≤◌}
-use native.Mathlib.Nat.{pos_of_ne-zero}
 use native.Mathlib.Omega.{arith}
-use lib.Bits.{bit_and}
 use lib.Dec.{eqb}
-use borrow.Author.Tests.{not-true, eqb-false, eq-eqb, ne_eqb}
-use Rattle.facts.specs.Sets.{width, has, only, shared, removed, lowest}
+use borrow.Author.Tests.{not-true, eqb-false, ne_eqb}
+use Rattle.facts.specs.Sets.{width, has, only, removed, lowest}
 use Rattle.facts.proofs.Counting.{lowest_has}
-use Rattle.facts.proofs.Laws.{has_empty, has_shared, has_only, has_without, has_within, within_lt}
+use Rattle.facts.proofs.Laws.{has_without, has_within, within_lt}
 use Rattle.table.specs.Repairs.{drop_need}
 use Rattle.table.specs.Strips.{AllRight}
 use Rattle.table.specs.Tasks.{cells_of, step_of, course_of, courses_of, WellFormed}
@@ -48,15 +46,6 @@ module _ (t : Task) (well : WellFormed t) where
     wide = omega (arith, lowest_inside, well.facts_high)
 
     module _ (next : ℕ) (n : next ≡ removed m (only f)) where
-      pub without_less : next < m
-      unfolding removed shared
-      without_less =
-          let part : bit_and m (only f) ≡ 0 → ⊥ =
-          λ k.
-          true≢false
-          (sym (has_shared m (only f) f ∙ rw (lowest_in, has_only f f wide, eq-eqb f f refl)) ∙ ap (λ (x : ℕ). has x f) k ∙ has_empty f) in
-          omega (arith, n, pos_of_ne-zero part)
-
       left_of : (g : ℕ) → has next g ≡ (has m g && not (eqb g f))
       left_of g = ap (λ (x : ℕ). has x g) n ∙ has_without m f g wide
 

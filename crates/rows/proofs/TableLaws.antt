@@ -9,7 +9,8 @@ use lib.Dec.{eqb}
 use lib.ListN.{length, get_or, drop, replicate, length-drop}
 use lib.Seq.{get_or-take, get_or-drop, ext_get_or, length-take-le, take-append_seam}
 use borrow.Author.Tests.{ne_eqb, eqb-true, eqb-false}
-use Rattle.search.specs.Columns.{Column, courses_in, KeepsIn}
+use Rattle.search.specs.declared.Column.{Column}
+use Rattle.search.specs.Columns.{courses_in, KeepsIn}
 use Rattle.search.specs.Rows.{row_over, row_hopeless, row_of, verdict_in, RowFor, RightRow}
 use Rattle.search.specs.Views.{Shows}
 use Rattle.search.proofs.RowLaws.{row_shown}
@@ -142,9 +143,6 @@ row_rewritten t f col row s after shown inside searched put =
 -- ---- the table filled row by row
 
 module _ (R : ℕ → List ℕ → Type 0) (s : List ℕ) where
-  pub rows_none : (D : ℕ → Type 0) → ((f : ℕ) → D f → ⊥) → RowsPut D R s s
-  rows_none D none = record { places = refl; rows = λ f h d. absurd (none f d); rest = λ i h. refl }
-
   -- One row more: of the facts in E all but f were in D.
   pub rows_more : (D E : ℕ → Type 0) (f : ℕ) (u after : List ℕ) → ((g : ℕ) → E g → (g ≡ f → ⊥) → D g) → RowsPut D R s u → RowPut (R f) f u after
       → RowsPut E R s after

@@ -8,7 +8,5 @@ pub fn copy(from: &[u16], start: usize, count: usize, to: &mut [u16], at: usize)
     requires count_in_bounds_2 { at + count ≤ length to.old }
     ensures { to.new ≡ pasted to.old at (drop start from.now) count }
 {
-    for i in 0..count {
-        to[at + i] = from[start + i];
-    }
+    to[at..at + count].copy_from_slice(&from[start..start + count]);
 }

@@ -29,10 +29,8 @@ pub fn put_row(t: Task, f: usize, table: &mut [u16])
     requires all_rows_in_bounds { all_rows ≤ length table.old }
     ensures { Rewritten t f table.old table.new }
 {
-    let counts = t.runs.counts;
-    let steps = t.runs.steps;
     let col = search::view::column_of(t, f);
-    let row = search::row::row(&col, &counts, &steps);
+    let row = search::row::row(&col, &t.runs.counts, &t.runs.steps);
     put(f, row, table);
 }
 
@@ -64,14 +62,11 @@ pub fn fill(t: Task, table: &mut [u16])
     requires empty_rows { EmptyRows table.old }
     ensures { Filled t table.old table.new }
 {
-    let mut left = wrong::wrong_facts(t);
     let counts = t.runs.counts;
     let steps = t.runs.steps;
-    while left != 0 {
-        let f = facts::lowest(left);
+    for f in facts::each(wrong::wrong_facts(t)) {
         let col = search::view::column_of(t, f);
         let row = search::row::row(&col, &counts, &steps);
         put(f, row, table);
-        left = facts::without_fact(left, f);
     }
 }

@@ -10,21 +10,15 @@ fn wrong_in(t: Task, run: usize) -> u64
     requires { WellFormed t × (run < t.runs.many) }
     ensures { WrongIn t run result }
 {
-    let needs = t.table.needs;
-    let adds = t.table.adds;
-    let deletes = t.table.deletes;
-    let runs = t.runs;
-    let count = runs.counts[run];
     let first = STEPS * run;
-    let mut state = runs.starts[run];
+    let mut state = t.runs.starts[run];
     let mut wrong = 0;
-    for i in 0..count {
-        let a = runs.steps[first + i] as usize;
-        wrong = facts::join(wrong, facts::remove(needs[a], state));
-        state = facts::join(facts::remove(state, deletes[a]), adds[a]);
+    for i in 0..t.runs.counts[run] {
+        let a = t.runs.steps[first + i] as usize;
+        wrong = facts::join(wrong, facts::remove(t.table.needs[a], state));
+        state = facts::join(facts::remove(state, t.table.deletes[a]), t.table.adds[a]);
     }
-    let goals = t.runs.goals;
-    facts::join(wrong, facts::remove(goals[run], state))
+    facts::join(wrong, facts::remove(t.runs.goals[run], state))
 }
 
 // The facts that are wrong in some run. The first run stands before the loop, so that the compiler keeps this function apart and

@@ -34,7 +34,7 @@ use Rattle.table.proofs.CountingLaws.{
 use Rattle.runcheck.specs.OpenNeeds.{States, is_open, open_at, total_open, first_open, lowest_open, open_report}
 use Rattle.runcheck.specs.Tallies.{nothing, first_below, tally_at, noted}
 use Rattle.runcheck.specs.declared.Checked.{Checked}
-use Rattle.runcheck.specs.declared.Tally.{Tally}
+use Rattle.runcheck.specs.declared.OpenNeeds.{OpenNeeds}
 
 -- ---- how one step is noted
 
@@ -48,7 +48,7 @@ noted_first absent step h =
     let sum : 0 + count absent ≡ count absent = omega arith in
     rw (ne_eqb absent 0 (λ e. omega arith), sum)
 
-noted_later : (s : Tally) (absent step : ℕ) → 0 < s.total
+noted_later : (s : OpenNeeds) (absent step : ℕ) → 0 < s.total
     → noted s absent step ≡ record { total = s.total + count absent; step = s.step; fact = s.fact }
 unfolding noted
 noted_later s absent step h = rw (ne_eqb s.total 0 (λ e. omega arith))
@@ -60,7 +60,7 @@ module _ (c : Cells) (r : Course) (states : States) where
   abbrev sum : ℕ → ℕ
   sum = sum_below (open_at c r states)
 
-  abbrev tally : ℕ → Tally
+  abbrev tally : ℕ → OpenNeeds
   tally = tally_at c r states
 
   tally_none : (n : ℕ) → sum n ≡ 0 → tally n ≡ nothing
@@ -139,7 +139,7 @@ count_zero m =
     let e : m ≡ 0 = omega arith in
     ap (λ (n : ℕ). eqb (count n) 0) e ∙ ap (λ (n : ℕ). eqb n 0) count_empty ∙ ap (λ (n : ℕ). eqb n 0) (sym e))
 
-abbrev pub tally_of : Task → ℕ → States → ℕ → Tally
+abbrev pub tally_of : Task → ℕ → States → ℕ → OpenNeeds
 tally_of t run = tally_at (cells_of t.table) (course_of t.runs run)
 
 -- The mask `state` has the facts that are present before step i.
@@ -197,10 +197,10 @@ module _ (t : Task) (w : WellFormed t) (run : ℕ) (states : States) (i state : 
 -- ---- the tally of all is the report
 
 -- what is answered for a well-formed task, of its tally
-abbrev pub answer : Tally → Checked
+abbrev pub answer : OpenNeeds → Checked
 answer s = record { number = accepted; place = 0; total = s.total; step = s.step; fact = s.fact }
 
-choose : (b : Bool) (s : Tally) → cond {A = Checked} b (answer nothing) (answer s) ≡ answer (cond {A = Tally} b nothing s)
+choose : (b : Bool) (s : OpenNeeds) → cond {A = Checked} b (answer nothing) (answer s) ≡ answer (cond {A = OpenNeeds} b nothing s)
 choose true s = refl
 choose false s = refl
 

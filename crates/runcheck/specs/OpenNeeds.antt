@@ -2,13 +2,15 @@
 -- nothing". "It takes the steps in order. Step i, counted from 1, has as open needs the needs of its action that are absent. Goals absent at
 -- the end are open needs of step n+1." Here step i counts from 0, so the goals are those of step n. What is present before step i is
 -- `states i`, for any states whatever. There are two rules for them: what is open is said once, for both.
-use Rattle.std.specs.Prelude.{Bool, cond, not, ◌&&◌, ◌||◌, ℕ, zero, suc, ◌+◌, eqb, ltb}
+use Rattle.std.specs.Prelude.{Result, Ok, Err, Bool, cond, not, ◌&&◌, ◌||◌, ℕ, zero, suc, ◌+◌, eqb, ltb}
 use Rattle.table.specs.Counting.{every_below, sum_below, count_below, first_where}
-use Rattle.table.specs.Refusals.{accepted, not_well_formed, not_there}
+use Rattle.table.specs.Refusals.{accepted, not_well_formed, not_there, number_of}
 use Rattle.table.specs.Strips.{Cells, Course, after_step}
 use Rattle.table.specs.Tasks.{cells_of, course_of, formed}
 use Rattle.table.specs.declared.Task.{Task}
+use Rattle.table.specs.declared.refusals.Refusal.{Refusal}
 use Rattle.runcheck.specs.declared.Checked.{Checked}
+use Rattle.runcheck.specs.declared.OpenNeeds.{OpenNeeds}
 
 -- The facts that are present before each step: the step, then the fact.
 abbrev pub States : Type 0
@@ -39,6 +41,11 @@ open_needs total step fact = record { number = accepted; place = 0; total = tota
 
 abbrev pub refused_check : ℕ → Checked
 refused_check n = record { number = n; place = 0; total = 0; step = 0; fact = 0 }
+
+-- What the code answers, in 01's numbers.
+abbrev pub checked_of : Result OpenNeeds Refusal → Checked
+checked_of (Ok found) = open_needs found.total found.step found.fact
+checked_of (Err e) = record { number = number_of e.why; place = e.place; total = 0; step = 0; fact = 0 }
 
 -- "With none, all three are 0."
 unfoldable pub open_report : Cells → Course → States → Checked

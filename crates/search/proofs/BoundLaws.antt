@@ -1,6 +1,6 @@
 -- Laws of the bound: sets of repairs that share none, each lacking to the candidate with the earlier ones put in, cost a repair
 -- each.
-use mathlib.Core.Bool.{Bool, true, false, true≢false, ◌||◌}
+use mathlib.Core.Bool.{true, false, true≢false, ◌||◌}
 use mathlib.Core.List.{List}
 use mathlib.Core.Logic.{◌⊎◌, inl, inr}
 use mathlib.Core.Path.{◌≡◌, sym, ◌∙◌, subst}
@@ -15,9 +15,10 @@ use Rattle.table.proofs.FlagLaws.{is_false, or_cases, or_left, or_right}
 use Rattle.table.proofs.RepairLaws.{right_more}
 use Rattle.choices.specs.declared.Choice.{Choice}
 use Rattle.choices.specs.Choices.{in_choice, numbers_in, list_of, code_number, Contains, Apart}
-use Rattle.search.specs.Columns.{Column, cells_in}
-use Rattle.search.specs.Searching.{Complete, Sought, Lacks, Among, OutFor, Reached}
-use Rattle.choices.specs.Trying.{with_repair, both_of, without_those, CodesBelow, NextIn}
+use Rattle.search.specs.declared.Column.{Column}
+use Rattle.search.specs.Columns.{cells_in}
+use Rattle.search.specs.Searching.{Complete, Sought, Lacks, Among, OutFor}
+use Rattle.choices.specs.Trying.{with_repair, both_of, without_those, CodesBelow}
 use Rattle.choices.proofs.ChoiceLaws.{list_of_only, list_of_members, list_of_has, in_both, in_without_cases, with_cases, with_length, contains_with}
 use Rattle.search.proofs.SearchLaws.{no_more}
 
@@ -105,7 +106,7 @@ module _ (col : Column) (rs : Courses) (s out want : Choice) where
             (λ k own h. sym (list_of_members col.fact passed k) ∙ within_passed passed n left enough all l a k h) a.sought.keeps.right
 
     -- Nothing beside what was passed: the rest is out.
-    shared_out : (every : Choice) → CodesBelow per_fact every → Apart s out
+    pub shared_out : (every : Choice) → CodesBelow per_fact every → Apart s out
         → OutFor col rs s out want (length (list_of col.fact s) + left) (both_of out (without_those every passed))
     shared_out every whole apart = record {
       before = λ code h t. in_both out (without_those every passed) code ∙ or_left (in_choice out code) _ t;
@@ -126,19 +127,3 @@ module _ (col : Column) (rs : Courses) (s out want : Choice) where
             pick : (in_choice out code ≡ true) ⊎ (in_choice (without_those every passed) code ≡ true) → in_choice passed code ≡ false
             pick (inl o) = absurd (apart o)
             pick (inr r) = (in_without_cases every passed code r).1
-
-  pub shared_reached : (passed every : Choice) (n left : ℕ) → left ≤ n → Shared col rs s out want passed n → CodesBelow per_fact every → Apart s out
-      → (t : Bool) → Complete col rs passed want t
-      → Reached col rs s out want (length (list_of col.fact s) + left) t (both_of out (without_those every passed))
-  shared_reached passed every n left enough all whole apart true complete = shared_out passed n left enough all every whole apart
-  shared_reached passed every n left enough all whole apart false short = shared_short passed n left enough all short
-
-  -- Nothing is left of what is lacking: there is no list.
-  pub none_left : (passed q : Choice) (k : ℕ) → Lacks col rs passed out want q → NextIn q 0 per_fact → (l : List ℕ) → Among col rs s out want k l → ⊥
-  none_left passed q k lacks next l a =
-      let m = lacks.meets l a.sought in
-      true≢false (sym m.2 ∙ next.absent m.0 m.1 (omega arith))
-
-  -- Nothing more is out.
-  pub out_same : (k : ℕ) → Apart s out → OutFor col rs s out want k out
-  out_same k apart = record { before = λ code h t. t; apart = apart; misses = λ l a. a.sought.misses }

@@ -1,15 +1,13 @@
 -- Laws of one fact's column with a candidate applied: what the masks say of its cells, by the kind of repair. Assumes nothing.
 use mathlib.Core.Bool.{Bool, true, false, not, ◌&&◌, ◌||◌, false≢true}
-use mathlib.Core.List.{List}
 use mathlib.Core.Path.{◌≡◌, refl, sym, ap, subst, ◌∙◌}
-use Prim.Native.Nat.{ℕ, ◌+◌, ◌*◌, ◌<◌, ◌≤◌}
+use Prim.Native.Nat.{ℕ, ◌+◌, ◌<◌, ◌≤◌}
 use native.Mathlib.Omega.{arith}
-use lib.ListN.{get_or}
 use borrow.Author.Count.{below_none, below_more}
 use borrow.Author.Tests.{not-true}
 use Rattle.facts.specs.Sets.{has, joined, removed}
 use Rattle.facts.proofs.Laws.{has_joined, has_removed}
-use Rattle.table.specs.Sizes.{max_actions, max_steps, max_runs, all_steps}
+use Rattle.table.specs.Sizes.{max_actions}
 use Rattle.table.specs.Strips.{Course, Right, state_at}
 use Rattle.table.specs.Repairs.{drop_delete, add_effect, drop_need}
 use Rattle.table.proofs.FlagLaws.{and_left, and_right, and_both, is_false}
@@ -17,7 +15,8 @@ use Rattle.table.proofs.RunLaws.{state_at_first, state_at_next}
 use Rattle.choices.proofs.MaskLaws.{chosen_has}
 use Rattle.choices.specs.declared.Choice.{Choice}
 use Rattle.search.specs.declared.narrow.Place.{Place}
-use Rattle.search.specs.Columns.{Column, cells_in, course_in, RunFormed}
+use Rattle.search.specs.declared.Column.{Column}
+use Rattle.search.specs.Columns.{cells_in}
 use Rattle.search.specs.Gaps.{Gap, missing_at, nowhere, Noted, stays, moves}
 use Rattle.search.specs.Searching.{cells_with, NeededAt, by_step, by_goal, Missing}
 
@@ -40,26 +39,6 @@ module _ (col : Column) (s : Choice) (a : ℕ) (ha : a < max_actions) where
   deletes_mask = rw (chosen_has col.fact s drop_delete a (omega arith) ha, has_removed col.deletes s.deletes a)
 
 -- ---- the walk along the run
-
--- A step of a run, where it stands.
-module _ (col : Column) (count : ℕ) (steps : List ℕ) (run : ℕ) (low : run < max_runs) (formed : RunFormed col (course_in col count steps run))
-    (i : ℕ) (inside : i < (course_in col count steps run).count) where
-  pub step_inside : max_steps * run + i < all_steps
-  step_inside = omega (arith, formed.count_high)
-
-  pub step_read : get_or steps (max_steps * run + i) 0 < max_actions
-  unfolding course_in
-  step_read = omega (arith, formed.steps_below i inside, formed.actions_high)
-
--- The first so many steps of a run are one too.
-pub run_cut : (col : Column) (count j : ℕ) (steps : List ℕ) (run : ℕ) → j ≤ count → RunFormed col (course_in col count steps run)
-    → RunFormed col (course_in col j steps run)
-unfolding course_in
-run_cut col count j steps run low formed = record {
-  actions_high = formed.actions_high;
-  count_high = omega (arith, formed.count_high);
-  steps_below = λ i h. formed.steps_below i (omega arith);
-}
 
 -- Before place i: the state of the fact there.
 pub record Walked (col : Column) (r : Course) (s : Choice) (present : Bool) (i : ℕ) : Type 0 where

@@ -23,7 +23,8 @@ use Rattle.table.proofs.RepairLaws.{repairable_delete, repairable_add, repairabl
 use Rattle.table.proofs.RunLaws.{state_at_first, state_at_next}
 use Rattle.choices.specs.declared.Choice.{Choice}
 use Rattle.choices.specs.Choices.{in_choice, code_of, code_kind, code_action, code_number, numbers_in, Apart}
-use Rattle.search.specs.Columns.{Column, cells_in, KeepsIn, RunFormed}
+use Rattle.search.specs.declared.Column.{Column}
+use Rattle.search.specs.Columns.{cells_in, KeepsIn, RunFormed}
 use Rattle.search.specs.Gaps.{LastDelete, Named, need_at, that_delete, add_between, ConflictAt, ActionsOf}
 use Rattle.search.specs.Searching.{cells_with, NeededAt, by_step, by_goal, Missing, Allowed}
 use Rattle.choices.specs.Trying.{mask_in}

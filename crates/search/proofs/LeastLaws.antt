@@ -1,5 +1,6 @@
 -- Why the least list is found number by number: what a shortest list, one that comes before it and the lists that agree with it
 -- so far give.
+use Rattle.std.specs.Prelude.{Option, Some, None}
 use mathlib.Core.Bool.{Bool, true, false, not, ◌&&◌, false≢true, true≢false, and-false}
 use mathlib.Core.List.{List, [], ◌∷◌}
 use mathlib.Core.Logic.{◌⊎◌, inl, inr}
@@ -20,18 +21,15 @@ use Rattle.table.proofs.OrderLaws.{is_in_none, ≼_trans, ≼_length, first_diff
 use Rattle.table.proofs.RepairLaws.{right_more}
 use Rattle.choices.specs.declared.Choice.{Choice}
 use Rattle.choices.specs.Choices.{nothing, in_choice, numbers_in, list_of, code_number, Contains, Apart}
-use Rattle.search.specs.Columns.{Column, cells_in, KeepsIn}
+use Rattle.search.specs.declared.Column.{Column}
+use Rattle.search.specs.Columns.{cells_in, KeepsIn}
 use Rattle.search.specs.Searching.{cells_with, Allowed, Among, SomeOf, Agree, Earlier, Short, Shortest}
-use Rattle.choices.specs.Trying.{shared_by, without_those, CodesBelow, NextIn}
+use Rattle.choices.specs.Trying.{shared_by, without_those, CodesBelow, NextIn, FirstIn}
 use Rattle.search.specs.Views.{Fullest}
 use Rattle.choices.proofs.ChoiceLaws.{in_list, in_shared, in_without, nothing_list, nothing_contained, nothing_missed, nothing_apart, find_code}
 use Rattle.search.proofs.SearchLaws.{contained_first, right_keeps}
 
 -- ---- some shortest list
-
--- Any permitted repair is wanted.
-pub fullest_allowed : (col : Column) (all : Choice) → Fullest col all → Allowed col all
-fullest_allowed col all full code h t = sym (full code h) ∙ t
 
 module _ (col : Column) (rs : Courses) where
   pub nothing_allowed : (s : Choice) → s ≡ nothing → Allowed col s
@@ -41,7 +39,7 @@ module _ (col : Column) (rs : Courses) where
   nothing_out s e = subst (λ w. Apart w w) (sym e) (nothing_apart nothing)
 
   -- The fact is right as it stands: the empty list is the shortest.
-  pub short_none : (s : Choice) → s ≡ nothing → AllRight (cells_with col s) rs col.fact → Short col rs true s
+  pub short_none : (s : Choice) → s ≡ nothing → AllRight (cells_with col s) rs col.fact → Short col rs (Some s)
   short_none s e right =
       let none : length (list_of col.fact s) ≡ 0 = ap (λ w. length (list_of col.fact w)) e ∙ ap length (nothing_list col.fact) in
       (right_keeps col rs s (nothing_allowed s e) right, omega arith, λ l keeps. omega arith)
@@ -82,30 +80,23 @@ module _ (col : Column) (rs : Courses) (s all : Choice) (k : ℕ) (start : s ≡
   }
 
   -- Nothing of at most k repairs: every list has more.
-  pub longer_than : (any : Bool) (found : Choice) → any ≡ false
-      → SomeOf col.fact (Among col rs s s all (length (list_of col.fact s) + k)) any found
+  pub longer_than : SomeOf col.fact (Among col rs s s all (length (list_of col.fact s) + k)) None
       → (l : List ℕ) → KeepsIn col rs l → k + 1 ≤ length l
-  longer_than any found e some l keeps = pick (dec_lt k (length l))
+  longer_than none l keeps = pick (dec_lt k (length l))
     where
-      none : (l : List ℕ) → Among col rs s s all (length (list_of col.fact s) + k) l → ⊥
-      none = subst (λ t. SomeOf col.fact (Among col rs s s all (length (list_of col.fact s) + k)) t found) e some
-
       pick : Dec (k < length l) → k + 1 ≤ length l
       pick (yes longer) = omega arith
       pick (no no_longer) = absurd (none l (among_all l keeps (omega arith)))
 
   -- One of k repairs, where every list has as many: it is a shortest.
-  pub short_found : (any : Bool) (found : Choice) → any ≡ true → k ≤ max_row → ((l : List ℕ) → KeepsIn col rs l → k ≤ length l)
-      → SomeOf col.fact (Among col rs s s all (length (list_of col.fact s) + k)) any found → Short col rs any found
-  short_found any found e room least some = subst (λ t. Short col rs t found) (sym e) (
+  pub short_found : (found : Choice) → k ≤ max_row → ((l : List ℕ) → KeepsIn col rs l → k ≤ length l)
+      → SomeOf col.fact (Among col rs s s all (length (list_of col.fact s) + k)) (Some found) → Short col rs (Some found)
+  short_found found room least a = (
     a.sought.keeps,
     omega (arith, a.short, none),
     λ l keeps. omega (arith, a.short, none, least l keeps),
   )
     where
-      a : Among col rs s s all (length (list_of col.fact s) + k) (list_of col.fact found)
-      a = subst (λ t. SomeOf col.fact (Among col rs s s all (length (list_of col.fact s) + k)) t found) e some
-
       none : length (list_of col.fact s) ≡ 0
       none = ap (λ w. length (list_of col.fact w)) start ∙ ap length (nothing_list col.fact)
 
@@ -199,10 +190,10 @@ module _ (col : Column) (rs : Courses) (best : Choice) (from n : ℕ) (s out wan
               m.4,
             )
 
-  pub some_earlier : (k : ℕ) → k ≡ length (list_of col.fact best) → (any : Bool) (r : Choice) → SomeOf col.fact (Among col rs s out want k) any r
-      → SomeOf col.fact (Earlier col rs best from n) any r
-  some_earlier k size true r a = among_earlier k size (list_of col.fact r) a
-  some_earlier k size false r none = λ l e. none l (earlier_among k size l e)
+  pub some_earlier : (k : ℕ) → k ≡ length (list_of col.fact best) → (found : Option Choice) → SomeOf col.fact (Among col rs s out want k) found
+      → SomeOf col.fact (Earlier col rs best from n) found
+  some_earlier k size (Some r) a = among_earlier k size (list_of col.fact r) a
+  some_earlier k size None none = λ l e. none l (earlier_among k size l e)
 
 -- ---- the first of the shortest, number by number
 
@@ -226,7 +217,7 @@ pub record Leads (col : Column) (rs : Courses) (best : Choice) (from : ℕ) : Ty
   pub least : (l : List ℕ) → KeepsIn col rs l → length (list_of col.fact best) ≤ length l
   pub ahead : (l : List ℕ) → KeepsIn col rs l → Agree col.fact from l (list_of col.fact best) ⊎ (list_of col.fact best ≼ l)
 
-pub leads_start : (col : Column) (rs : Courses) (some : Choice) → Short col rs true some → Leads col rs some 0
+pub leads_start : (col : Column) (rs : Courses) (some : Choice) → Short col rs (Some some) → Leads col rs some 0
 leads_start col rs some short = record { keeps = short.0; least = short.2; ahead = λ l keeps. inl (λ code h low. absurd (omega arith)) }
 
 module _ (col : Column) (rs : Courses) (best : Choice) (from code : ℕ) (leads : Leads col rs best from) (next : NextIn best from code) where
@@ -325,44 +316,45 @@ module _ (col : Column) (rs : Courses) (best : Choice) (from code : ℕ) (leads 
           by c h t (no past) = absurd (false≢true (sym (next.absent c (omega arith) (omega arith)) ∙ t))
 
 -- One turn: the best gives way to the list that was found, or `from` goes on behind its next repair.
-abbrev pub Turned : Choice → Choice → Bool → ℕ → ℕ → Choice → ℕ → Type 0
-Turned best found any from code best' from' =
-    ((any ≡ true) × (best' ≡ found) × (from' ≡ from)) ⊎ ((any ≡ false) × (best' ≡ best) × (from' ≡ code + 1))
+abbrev pub Turned : Choice → Option Choice → ℕ → ℕ → Choice → ℕ → Type 0
+Turned best (Some found) from code best' from' = (best' ≡ found) × (from' ≡ from)
+Turned best None from code best' from' = (best' ≡ best) × (from' ≡ code + 1)
+
+-- The code that was found, or the number past all codes.
+abbrev pub code_or_end : Option ℕ → ℕ
+code_or_end (Some code) = code
+code_or_end None = per_fact
+
+pub first_next : (s : Choice) (from : ℕ) (next : Option ℕ) → FirstIn s from next → NextIn s from (code_or_end next)
+first_next s from (Some code) first = first.1
+first_next s from None none = none
 
 -- How far there is to go.
 abbrev pub ahead_of : ℕ → ℕ → ℕ
 ahead_of from code = (per_fact + 1) * (per_fact - from) + code
 
-module _ (col : Column) (rs : Courses) (best found : Choice) (any : Bool) (from code : ℕ) (leads : Leads col rs best from) (next : NextIn best from code) (inside : code < per_fact)
-    (tried : SomeOf col.fact (Earlier col rs best from code) any found) (best' : Choice) (from' : ℕ) where
-  module _ (code' : ℕ) (next' : NextIn best' from' code') where
-    new : any ≡ true → Earlier col rs best from code (list_of col.fact found)
-    new e = subst (λ t. SomeOf col.fact (Earlier col rs best from code) t found) e tried
+module _ (col : Column) (rs : Courses) (best : Choice) (from code : ℕ) (leads : Leads col rs best from) (next : NextIn best from code) (inside : code < per_fact)
+    (best' : Choice) (from' code' : ℕ) (next' : NextIn best' from' code') where
+  -- The next repair of what was found, where the best gave way to it.
+  at_found : (r : Choice) → (best' ≡ r) × (from' ≡ from) → NextIn r from code'
+  at_found r w = subst (λ b. NextIn b from code') w.0 (subst (λ i. NextIn best' i code') w.1 next')
 
-    at_found : (any ≡ true) × (best' ≡ found) × (from' ≡ from) → NextIn found from code'
-    at_found w = subst (λ b. NextIn b from code') w.1 (subst (λ i. NextIn best' i code') w.2 next')
+  pub turned_leads : (found : Option Choice) → SomeOf col.fact (Earlier col rs best from code) found → Turned best found from code best' from' → Leads col rs best' from'
+  turned_leads (Some r) new w =
+      subst (Leads col rs best') (sym w.1)
+      (subst (λ b. Leads col rs b from) (sym w.0) (leads_found col rs best from code leads next r new code' (at_found r w)))
+  turned_leads None none w =
+      subst (Leads col rs best') (sym w.1) (subst (λ b. Leads col rs b (code + 1)) (sym w.0) (leads_past col rs best from code leads next inside none))
 
-    pub turned_leads : Turned best found any from code best' from' → Leads col rs best' from'
-    turned_leads (inl w) =
-        subst (Leads col rs best') (sym w.2)
-        (subst (λ b. Leads col rs b from) (sym w.1) (leads_found col rs best from code leads next found (new w.0) code' (at_found w)))
-    turned_leads (inr w) =
-        subst (Leads col rs best') (sym w.2)
-        (subst (λ b. Leads col rs b (code + 1)) (sym w.1)
-        (leads_past col rs best from code leads next inside (subst (λ t. SomeOf col.fact (Earlier col rs best from code) t found) w.0 tried)))
-
-    pub turned_falls : Turned best found any from code best' from' → ahead_of from' code' < ahead_of from code
-    turned_falls (inl w) = omega (arith, w.2, next_earlier col rs best from code leads next found (new w.0) code' (at_found w))
-    turned_falls (inr w) = omega (arith, w.2, next.after, next'.within)
+  pub turned_falls : (found : Option Choice) → SomeOf col.fact (Earlier col rs best from code) found → Turned best found from code best' from'
+      → ahead_of from' code' < ahead_of from code
+  turned_falls (Some r) new w = omega (arith, w.1, next_earlier col rs best from code leads next r new code' (at_found r w))
+  turned_falls None none w = omega (arith, w.1, next.after, next'.within)
 
 -- ---- the whole search of a column
 
 module _ (col : Column) (rs : Courses) where
-  pub shortest_none : (any : Bool) (r : Choice) → any ≡ false → Short col rs any r → Shortest col rs any r
-  shortest_none true r e short = absurd (true≢false e)
-  shortest_none false r e longer = longer
-
   -- The first of the lists is no longer than some shortest.
-  pub shortest_first : (some r : Choice) → Short col rs true some → First (KeepsIn col rs) (list_of col.fact r) → Shortest col rs true r
+  pub shortest_first : (some r : Choice) → Short col rs (Some some) → First (KeepsIn col rs) (list_of col.fact r) → Shortest col rs (Some r)
   shortest_first some r short first =
       (first, omega (arith, short.1, ≼_length (list_of col.fact r) (list_of col.fact some) (first.least (list_of col.fact some) short.0)))

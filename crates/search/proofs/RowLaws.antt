@@ -1,5 +1,6 @@
 -- Laws of a row: writing a list into it repair by repair, and which row is right. Assumes nothing.
-use mathlib.Core.Bool.{Bool, true, false, false≢true}
+use Rattle.std.specs.Prelude.{None}
+use mathlib.Core.Bool.{true, false}
 use mathlib.Core.List.{List, [], ◌∷◌, ◌++◌}
 use mathlib.Core.Path.{◌≡◌, sym, ap, ◌∙◌, subst}
 use Prim.Native.Nat.{ℕ, suc, ◌+◌, ◌-◌, ◌<◌, ◌≤◌}
@@ -18,7 +19,8 @@ use Rattle.table.proofs.AnswerLaws.{within_same}
 use Rattle.table.proofs.GatherLaws.{gather_none, gather_part, gather_step, passing}
 use Rattle.table.proofs.RepairNumbers.{numbered_inside}
 use Rattle.choices.specs.Choices.{code_kind, code_action, in_choice, list_of, code_number}
-use Rattle.search.specs.Columns.{Column, courses_in, KeepsIn}
+use Rattle.search.specs.declared.Column.{Column}
+use Rattle.search.specs.Columns.{courses_in, KeepsIn}
 use Rattle.search.specs.Rows.{row_of, row_with, row_over, row_hopeless, RowFor, RightRow}
 use Rattle.search.specs.Searching.{Rightness, Shortest}
 use Rattle.choices.specs.Trying.{NextIn}
@@ -52,12 +54,12 @@ module _ (f : ℕ) (s : Choice) where
   unfolding passing
   codes_chosen i chosen = gather_step (λ code. piece (in_choice s code) (code_number f code ∷ [])) i ∙ rw chosen
 
-  bare_below : (row : List ℕ) → row ≡ (0 ∷ replicate max_row unused) → row ≡ row_below 0
+  pub bare_below : (row : List ℕ) → row ≡ (0 ∷ replicate max_row unused) → row ≡ row_below 0
   unfolding row_of passing gather
   bare_below row e = e
 
   -- No chosen code between: the same row.
-  passed : (i k : ℕ) → i ≤ per_fact → NextIn s i k → row_below k ≡ row_below i
+  pub passed : (i k : ℕ) → i ≤ per_fact → NextIn s i k → row_below k ≡ row_below i
   unfolding passing
   passed i k inside next = ap (λ (l : List ℕ). row_of (found l)) none
     where
@@ -66,10 +68,6 @@ module _ (f : ℕ) (s : Choice) where
           subst (λ n. codes (in_choice s) f n ≡ codes (in_choice s) f i) (omega (arith, next.after))
           (gather_none (λ code. piece (in_choice s code) (code_number f code ∷ [])) i (k - i)
           (λ code l h. ap (λ b. piece b (code_number f code ∷ [])) (next.absent code (omega (arith, next.after)) l)))
-
-  -- Up to the first chosen code the row is bare.
-  pub below_first : (row : List ℕ) (k : ℕ) → row ≡ (0 ∷ replicate max_row unused) → NextIn s 0 k → row ≡ row_below k
-  below_first row k e next = bare_below row e ∙ sym (passed 0 k (omega arith) next)
 
   announced : (i : ℕ) (row : List ℕ) → row ≡ row_below i → get_or row 0 0 ≡ length (codes (in_choice s) f i)
   unfolding row_of
@@ -83,10 +81,10 @@ module _ (f : ℕ) (s : Choice) where
       let all : length (codes (in_choice s) f per_fact) ≤ max_row = short in
       omega (arith, announced i row e, codes_length (in_choice s) f i, gather_part (λ code. piece (in_choice s code) (code_number f code ∷ [])) (suc i) per_fact (omega arith))
 
-  -- One chosen code more, and on to the next.
-  pub below_more : (i k : ℕ) (row more : List ℕ) → i < per_fact → row ≡ row_below i → in_choice s i ≡ true → get_or row 0 0 < max_row
-      → more ≡ row_with row (code_number f i) → NextIn s (i + 1) k → more ≡ row_below k
-  below_more i k row more inside e chosen fits made next = made ∙ grown ∙ one_more ∙ sym (passed (i + 1) k (omega arith) next)
+  -- One chosen code more.
+  pub below_more : (i : ℕ) (row more : List ℕ) → row ≡ row_below i → in_choice s i ≡ true → get_or row 0 0 < max_row
+      → more ≡ row_with row (code_number f i) → more ≡ row_below (i + 1)
+  below_more i row more e chosen fits made = made ∙ grown ∙ one_more
     where
       room : length (codes (in_choice s) f i) < max_row
       room = omega (arith, announced i row e, fits)
@@ -103,21 +101,11 @@ module _ (f : ℕ) (s : Choice) where
 
 -- ---- which row is right
 
--- A row has room for what the search found.
-pub found_short : (col : Column) (rs : Courses) (any : Bool) (best : Choice) → any ≡ true → Shortest col rs any best → length (list_of col.fact best) ≤ max_row
-found_short col rs false best some short = absurd (false≢true some)
-found_short col rs true best some short = short.1
-
 module _ (col : Column) (rs : Courses) (row : List ℕ) where
-  pub found_row : (any : Bool) (best : Choice) → any ≡ true → Shortest col rs any best → row ≡ row_of (found (list_of col.fact best)) → RowFor (KeepsIn col rs) row
-  found_row false best some short e = absurd (false≢true some)
-  found_row true best some short e = record { verdict = found (list_of col.fact best); within = short; shown = e }
-
-  pub over_row : (any : Bool) (best full : Choice) → any ≡ false → Shortest col rs any best → Fullest col full → Rightness col rs full true
+  pub over_row : (full : Choice) → Shortest col rs None → Fullest col full → Rightness col rs full true
       → row ≡ (row_over ∷ replicate max_row unused) → RowFor (KeepsIn col rs) row
   unfolding row_of
-  over_row true best full nothing short most right e = absurd (false≢true (sym nothing))
-  over_row false best full nothing short most right e =
+  over_row full short most right e =
       record { verdict = over; within = ((list_of col.fact full, fullest_keeps col rs full most right), short); shown = e }
 
   pub hopeless_row : (full : Choice) → Fullest col full → Rightness col rs full false → row ≡ (row_hopeless ∷ replicate max_row unused)

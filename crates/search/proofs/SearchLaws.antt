@@ -1,5 +1,6 @@
 -- Why the search finds a list exactly if there is one: what a candidate, what it lacks and a try give.
-use mathlib.Core.Bool.{Bool, true, false, not, false≢true, true≢false}
+use Rattle.std.specs.Prelude.{Option, Some, None}
+use mathlib.Core.Bool.{Bool, true, false, false≢true, true≢false}
 use mathlib.Core.List.{List}
 use mathlib.Core.Logic.{◌⊎◌, inl, inr}
 use mathlib.Core.Path.{◌≡◌, refl, sym, ap, ◌∙◌, subst, fun_ext}
@@ -15,10 +16,14 @@ use Rattle.table.proofs.FlagLaws.{is_false, by_order}
 use Rattle.table.proofs.OrderLaws.{compared, ≼_length, subset_first}
 use Rattle.choices.specs.declared.Choice.{Choice}
 use Rattle.choices.specs.Choices.{in_choice, list_of, code_number, Contains, Apart, Shares}
-use Rattle.search.specs.Columns.{Column, cells_in, KeepsIn}
-use Rattle.search.specs.Searching.{cells_with, NeededAt, Missing, Allowed, Conflicts, Lacks, Rightness, Complete, LackingBelow, Lacking, Among, SomeOf, OutFor}
+use Rattle.search.specs.declared.Column.{Column}
+use Rattle.search.specs.declared.Lent.{Lent}
+use Rattle.search.specs.declared.Run.{Run}
+use Rattle.search.specs.Columns.{cells_in, KeepsIn}
+use Rattle.search.specs.Runs.{run_of, runs_of}
+use Rattle.search.specs.Searching.{cells_with, NeededAt, Missing, Allowed, Conflicts, Lacks, Complete, LackingBelow, Among, SomeOf, OutFor}
 use Rattle.search.specs.Gaps.{Gap}
-use Rattle.choices.specs.Trying.{with_repair, without_those, NextIn, Sharing}
+use Rattle.choices.specs.Trying.{with_repair, without_those, NextIn}
 use Rattle.choices.proofs.ChoiceLaws.{list_of_ascending, list_of_from, list_of_has, list_of_members, list_misses, contains_list, in_without_cases, left_over, with_has, with_keeps, with_other, with_cases, with_length, contains_with, contains_without}
 
 -- ---- a candidate and its list
@@ -104,6 +109,11 @@ pub gap_missing : (col : Column) (r : Course) (s : Choice) (j : ℕ) → Gap col
 gap_missing col r s j (Gap.missing_at low m) h = m
 gap_missing col r s j (Gap.nowhere e right) h = absurd (omega arith)
 
+-- What holds of a run that was taken out of what is lent holds there.
+pub in_run : (P : Column → Course → Type 0) (v : Lent) (n : ℕ) (run : Run) → run.col.now ≡ v.col.now → run_of run ≡ (runs_of v).course n
+    → P run.col.now (run_of run) → P v.col.now ((runs_of v).course n)
+in_run P v n run column same p = subst (λ col. P col ((runs_of v).course n)) column (subst (P run.col.now) same p)
+
 -- ---- what a candidate lacks
 
 -- A conflict in one of the runs, without what is out.
@@ -139,32 +149,15 @@ right_next col rs s n right before i h = by_order i n (before i) (λ past. same 
     same : n ≡ i → Right (cells_with col s) (rs.course i) col.fact
     same e = subst (λ k. Right (cells_with col s) (rs.course k) col.fact) e right
 
--- Before the first run: what is wanted, if the candidate has none of it.
-pub lacking_none : (col : Column) (rs : Courses) (s out want : Choice) (met : Bool) → Allowed col want → Sharing s want met
-    → LackingBelow col rs s out want 0 (not met) (without_those want out)
-lacking_none col rs s out want true allowed shares = (λ i h. absurd (omega arith), shares)
-lacking_none col rs s out want false allowed unmet = wanted_lacks col rs s out want allowed unmet
+-- Before the first run: nothing, if the candidate has one of the repairs that are wanted.
+pub lacking_none : (col : Column) (rs : Courses) (s out want : Choice) → Shares s want → LackingBelow col rs s out want 0 None
+lacking_none col rs s out want shares = (λ i h. absurd (omega arith), shares)
 
 -- A run in which the fact is right: no more is lacking than before.
-pub lacking_kept : (col : Column) (rs : Courses) (s out want : Choice) (n : ℕ) (any : Bool) (q : Choice)
-    → Right (cells_with col s) (rs.course n) col.fact → LackingBelow col rs s out want n any q → LackingBelow col rs s out want (n + 1) any q
-lacking_kept col rs s out want n true q right lacks = lacks
-lacking_kept col rs s out want n false q right so = (right_next col rs s n right so.0, so.1)
-
--- One that is lacking stays so.
-pub lacking_still : (col : Column) (rs : Courses) (s out want : Choice) (n m : ℕ) (any : Bool) (q : Choice) → any ≡ true
-    → LackingBelow col rs s out want n any q → LackingBelow col rs s out want m any q
-lacking_still col rs s out want n m true q e lacks = lacks
-lacking_still col rs s out want n m false q e so = absurd (false≢true e)
-
-pub complete_so : (col : Column) (rs : Courses) (s want : Choice) (b : Bool) → Shares s want → Rightness col rs s b → Complete col rs s want b
-complete_so col rs s want true shares right = (right, shares)
-complete_so col rs s want false shares wrong = λ right _. wrong right
-
--- A candidate that fails lacks something.
-pub fails_lacks : (col : Column) (rs : Courses) (s out want q : Choice) (any : Bool) → Complete col rs s want false → Lacking col rs s out want any q → Lacks col rs s out want q
-fails_lacks col rs s out want q true fails lacks = lacks
-fails_lacks col rs s out want q false fails complete = absurd (fails complete.0 complete.1)
+pub lacking_kept : (col : Column) (rs : Courses) (s out want : Choice) (n : ℕ) (best : Option Choice)
+    → Right (cells_with col s) (rs.course n) col.fact → LackingBelow col rs s out want n best → LackingBelow col rs s out want (n + 1) best
+lacking_kept col rs s out want n (Some q) right lacks = lacks
+lacking_kept col rs s out want n None right so = (right_next col rs s n right so.0, so.1)
 
 -- ---- a test's own answers
 
@@ -201,10 +194,9 @@ module _ (col : Column) (rs : Courses) (s out want r : Choice) (k : ℕ) (more :
     short = a.short;
   }
 
-  pub some_fewer : (any : Bool) (found : Choice) → SomeOf col.fact (Among col rs s r want k) any found
-      → SomeOf col.fact (Among col rs s out want k) any found
-  some_fewer true found a = among_more (list_of col.fact found) a
-  some_fewer false found none = λ l a. none l (among_fewer l a)
+  pub some_fewer : (found : Option Choice) → SomeOf col.fact (Among col rs s r want k) found → SomeOf col.fact (Among col rs s out want k) found
+  some_fewer (Some found) a = among_more (list_of col.fact found) a
+  some_fewer None none = λ l a. none l (among_fewer l a)
 
 -- ---- a branch's loop over the codes of what is lacking
 
@@ -216,12 +208,24 @@ pub record OutAt (col : Column) (rs : Courses) (s out want q : Choice) (k i : �
   pub only : (c : ℕ) → c < per_fact → in_choice now c ≡ true → (in_choice out c ≡ true) ⊎ (c < i)
 
 module _ (col : Column) (rs : Courses) (s out want q : Choice) (k : ℕ) where
-  pub out_first : (i : ℕ) → Apart s out → NextIn q 0 i → OutAt col rs s out want q k i out
-  out_first i apart next = record {
+  pub out_first : Apart s out → OutAt col rs s out want q k 0 out
+  out_first apart = record {
     outs = record { before = λ c h t. t; apart = apart; misses = λ l a. a.sought.misses };
-    tried = λ c h low t. absurd (false≢true (sym (next.absent c low (omega arith)) ∙ t));
+    tried = λ c h low t. absurd (omega arith);
     only = λ c h t. inl t;
   }
+
+  -- On to the next code of q, or past them all: none of it is between.
+  pub out_skip : (now : Choice) (i next : ℕ) → i ≤ per_fact → NextIn q i next → OutAt col rs s out want q k i now → OutAt col rs s out want q k next now
+  out_skip now i next low after at = record {
+    outs = at.outs;
+    tried = λ c hc far t. by_order c i (λ past. at.tried c hc past t) (λ here. absurd (false≢true (sym (after.absent c far here) ∙ t)));
+    only = λ c hc t. later c (at.only c hc t);
+  }
+    where
+      later : (c : ℕ) → (in_choice out c ≡ true) ⊎ (c < i) → (in_choice out c ≡ true) ⊎ (c < next)
+      later c (inl o) = inl o
+      later c (inr past) = inr (omega (arith, after.after))
 
   module _ (lacks : Lacks col rs s out want q) (now : Choice) (i : ℕ) (h : i < per_fact) (here : in_choice q i ≡ true)
       (at : OutAt col rs s out want q k i now) where
@@ -246,11 +250,9 @@ module _ (col : Column) (rs : Courses) (s out want q : Choice) (k : ℕ) where
       longer = omega (arith, e, ap (λ x. length (list_of col.fact x)) one, with_length col.fact s i h (lacks.fresh i h here))
 
       -- A list found with it is one of the candidate's.
-      pub found_with : (any : Bool) (found : Choice) → any ≡ true
-          → SomeOf col.fact (Among col rs w now want (length (list_of col.fact w) + (left - 1))) any found
-          → SomeOf col.fact (Among col rs s out want k) any found
-      found_with false found t a = absurd (false≢true t)
-      found_with true found t a =
+      pub found_with : (found : Choice) → SomeOf col.fact (Among col rs w now want (length (list_of col.fact w) + (left - 1))) (Some found)
+          → SomeOf col.fact (Among col rs s out want k) (Some found)
+      found_with found a =
           let l = list_of col.fact found in
           among_more col rs s out want now k at.outs l (record {
             sought = a.sought;
@@ -259,11 +261,9 @@ module _ (col : Column) (rs : Courses) (s out want q : Choice) (k : ℕ) where
           })
 
       -- No list has it: it is out from now on.
-      pub out_next : (any : Bool) (found : Choice) → any ≡ false
-          → SomeOf col.fact (Among col rs w now want (length (list_of col.fact w) + (left - 1))) any found
-          → (next : ℕ) → NextIn q (i + 1) next → OutAt col rs s out want q k next (with_repair now i)
-      out_next true found t a next after = absurd (true≢false t)
-      out_next false found t none next after = record {
+      pub out_next : SomeOf col.fact (Among col rs w now want (length (list_of col.fact w) + (left - 1))) None
+          → OutAt col rs s out want q k (i + 1) (with_repair now i)
+      out_next none = record {
         outs = record {
           before = λ c hc t. with_keeps now i c h hc (at.outs.before c hc t);
           apart = λ c hc t.
@@ -289,17 +289,17 @@ module _ (col : Column) (rs : Courses) (s out want q : Choice) (k : ℕ) where
           missed l a c hc (inl d) = ap (λ j. is_in l (code_number col.fact j)) d ∙ absent l a
           missed l a c hc (inr t) = at.outs.misses l a c hc t
 
-          done : (c : ℕ) → c < per_fact → in_choice q c ≡ true → c < next → (c < i) ⊎ ((c ≡ i) ⊎ (i < c)) → in_choice (with_repair now i) c ≡ true
+          done : (c : ℕ) → c < per_fact → in_choice q c ≡ true → c < i + 1 → (c < i) ⊎ ((c ≡ i) ⊎ (i < c)) → in_choice (with_repair now i) c ≡ true
           done c hc t far (inl low) = with_keeps now i c h hc (at.tried c hc low t)
           done c hc t far (inr (inl d)) = subst (λ j. in_choice (with_repair now i) j ≡ true) (sym d) (with_has now i h)
-          done c hc t far (inr (inr high)) = absurd (false≢true (sym (after.absent c far (omega arith)) ∙ t))
+          done c hc t far (inr (inr high)) = absurd (omega arith)
 
-          later : (c : ℕ) → (in_choice out c ≡ true) ⊎ (c < i) → (in_choice out c ≡ true) ⊎ (c < next)
+          later : (c : ℕ) → (in_choice out c ≡ true) ⊎ (c < i) → (in_choice out c ≡ true) ⊎ (c < i + 1)
           later c (inl o) = inl o
-          later c (inr low) = inr (omega (arith, after.after))
+          later c (inr low) = inr (omega arith)
 
-          known : (c : ℕ) → c < per_fact → (c ≡ i) ⊎ (in_choice now c ≡ true) → (in_choice out c ≡ true) ⊎ (c < next)
-          known c hc (inl d) = inr (omega (arith, after.after))
+          known : (c : ℕ) → c < per_fact → (c ≡ i) ⊎ (in_choice now c ≡ true) → (in_choice out c ≡ true) ⊎ (c < i + 1)
+          known c hc (inl d) = inr (omega arith)
           known c hc (inr t) = later c (at.only c hc t)
 
   -- Every repair of what is lacking tried: a list would have one of them.

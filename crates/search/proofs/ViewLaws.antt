@@ -24,7 +24,8 @@ use Rattle.table.proofs.RunLaws.{SameCourseAt, SameCoursesAt, same_courses_sym}
 use Rattle.table.proofs.RepairNumbers.{permitted_permits}
 use Rattle.search.proofs.SearchLaws.{right_keeps}
 use Rattle.choices.specs.Choices.{in_choice, numbers_in, list_of, code_number, code_kind, code_action}
-use Rattle.search.specs.Columns.{Column, cells_in, course_in, courses_in, KeepsIn, ColumnFormed}
+use Rattle.search.specs.declared.Column.{Column}
+use Rattle.search.specs.Columns.{cells_in, course_in, courses_in, KeepsIn, ColumnFormed}
 use Rattle.search.specs.Searching.{cells_with}
 use Rattle.search.specs.Views.{Gathers, GathersBelow, Shows, Fullest}
 use Rattle.choices.specs.declared.Choice.{Choice}
@@ -137,11 +138,11 @@ fullest_keeps col rs s full right = right_keeps col rs s (λ code h chosen. sym 
 module _ (t : Task) (col : Column) (shows : Shows t col) where
   -- Each run of the column is the task's, at the column's fact.
   same_course : (i : ℕ) → SameCourseAt col.fact (course_of t.runs i) (course_in col (get_or t.runs.counts i 0) t.runs.steps i)
-  unfolding course_of course_in
+  unfolding course_of
   same_course i = record { start = sym (shows.start i); goal = sym (shows.goal i); count = refl; steps = λ j low. refl }
 
   pub shows_formed : WellFormed t → ColumnFormed col t.runs.counts t.runs.steps
-  unfolding course_of course_in
+  unfolding course_of
   shows_formed well = record {
     actions_high = omega (arith, shows.actions, well.actions_high);
     runs_high = omega (arith, shows.runs, well.many_high);

@@ -4,33 +4,7 @@ use Rattle.facts.specs.Sets.{has}
 use Rattle.table.specs.Sizes.{max_actions, max_steps, max_runs}
 use Rattle.table.specs.Strips.{Cells, Course, Courses}
 use Rattle.table.specs.Answer.{Keeps}
-
--- One fact's column: the actions that need it, add it and delete it, those whose need of it is locked, and the runs that have it at the start
--- and as a goal, as masks.
-pub record Column : Type 0 where
-  pub fact : ℕ
-  pub actions : ℕ
-  pub needs : ℕ
-  pub adds : ℕ
-  pub deletes : ℕ
-  pub locks : ℕ
-  pub runs : ℕ
-  pub start : ℕ
-  pub goal : ℕ
-
--- The column that nine numbers are, by their places.
-abbrev pub column_in : List ℕ → Column
-column_in l = record {
-  fact = get_or l 0 0;
-  actions = get_or l 1 0;
-  needs = get_or l 2 0;
-  adds = get_or l 3 0;
-  deletes = get_or l 4 0;
-  locks = get_or l 5 0;
-  runs = get_or l 6 0;
-  start = get_or l 7 0;
-  goal = get_or l 8 0;
-}
+use Rattle.search.specs.declared.Column.{Column}
 
 unfoldable pub cells_in : Column → Cells
 cells_in col = record {
@@ -43,10 +17,10 @@ cells_in col = record {
 }
 
 -- Run i, which has so many steps: they stand from place 64i on.
-unfoldable pub course_in : Column → ℕ → List ℕ → ℕ → Course
+abbrev pub course_in : Column → ℕ → List ℕ → ℕ → Course
 course_in col count steps i = record {
-  start = λ f. has col.start i;
-  goal = λ f. has col.goal i;
+  start = λ f. has col.starts i;
+  goal = λ f. has col.goals i;
   count = count;
   step = λ j. get_or steps (max_steps * i + j) 0;
 }

@@ -5,7 +5,8 @@ use Rattle.table.specs.Repairs.{drop_delete, add_effect, drop_need}
 use Rattle.table.specs.Sizes.{per_fact}
 use Rattle.table.specs.Strips.{Course, one, Right}
 use Rattle.choices.specs.declared.Choice.{Choice}
-use Rattle.search.specs.Columns.{Column, KeepsIn}
+use Rattle.search.specs.declared.Column.{Column}
+use Rattle.search.specs.Columns.{KeepsIn}
 use Rattle.search.specs.declared.narrow.Place.{Place}
 use Rattle.choices.specs.Choices.{in_choice, code_of}
 use Rattle.search.specs.Searching.{cells_with, Missing, Conflicts}

@@ -1,5 +1,5 @@
 -- What each part of the search promises: document 01, "A conflict" and "When a candidate still fails".
-use Rattle.std.specs.Prelude.{Bool, true, false, List, ◌≡◌, ℕ, ◌<◌, ◌≤◌, length}
+use Rattle.std.specs.Prelude.{Bool, true, false, Option, Some, None, List, ◌≡◌, ℕ, ◌<◌, ◌≤◌, length}
 use Rattle.table.specs.Answer.{First}
 use Rattle.table.specs.Order.{is_in}
 use Rattle.table.specs.Repairs.{permitted, repaired}
@@ -7,7 +7,8 @@ use Rattle.table.specs.Sizes.{max_row, per_fact}
 use Rattle.table.specs.Strips.{Cells, Course, Courses, Right, AllRight, state_at}
 use Rattle.choices.specs.declared.Choice.{Choice}
 use Rattle.choices.specs.Choices.{in_choice, numbers_in, list_of, code_number, Contains, Misses, Meets, Apart, Shares}
-use Rattle.search.specs.Columns.{Column, cells_in, KeepsIn}
+use Rattle.search.specs.declared.Column.{Column}
+use Rattle.search.specs.Columns.{cells_in, KeepsIn}
 
 -- The column's table with a candidate applied.
 abbrev pub cells_with : Column → Choice → Cells
@@ -60,12 +61,12 @@ Complete col rs s want true = AllRight (cells_with col s) rs col.fact × Shares 
 Complete col rs s want false = AllRight (cells_with col s) rs col.fact → Shares s want → ⊥
 
 -- Repairs that the candidate lacks one of, if it lacks any as far as the runs below n go.
-abbrev pub LackingBelow : Column → Courses → Choice → Choice → Choice → ℕ → Bool → Choice → Type 0
-LackingBelow col rs s out want n true q = Lacks col rs s out want q
-LackingBelow col rs s out want n false q = ((i : ℕ) → i < n → Right (cells_with col s) (rs.course i) col.fact) × Shares s want
+abbrev pub LackingBelow : Column → Courses → Choice → Choice → Choice → ℕ → Option Choice → Type 0
+LackingBelow col rs s out want n (Some q) = Lacks col rs s out want q
+LackingBelow col rs s out want n None = ((i : ℕ) → i < n → Right (cells_with col s) (rs.course i) col.fact) × Shares s want
 
-abbrev pub Lacking : Column → Courses → Choice → Choice → Choice → Bool → Choice → Type 0
-Lacking col rs s out want any q = LackingBelow col rs s out want rs.many any q
+abbrev pub Lacking : Column → Courses → Choice → Choice → Choice → Option Choice → Type 0
+Lacking col rs s out want q = LackingBelow col rs s out want rs.many q
 
 -- The lists among which a search with a candidate looks: those that are looked for, contain the candidate and have at most k
 -- repairs.
@@ -75,9 +76,9 @@ pub record Among (col : Column) (rs : Courses) (s out want : Choice) (k : ℕ) (
   pub short : length l ≤ k
 
 -- One of the lists of G, or nothing exactly if G is empty.
-abbrev pub SomeOf : ℕ → (List ℕ → Type 0) → Bool → Choice → Type 0
-SomeOf f G true r = G (list_of f r)
-SomeOf f G false r = (l : List ℕ) → G l → ⊥
+abbrev pub SomeOf : ℕ → (List ℕ → Type 0) → Option Choice → Type 0
+SomeOf f G (Some r) = G (list_of f r)
+SomeOf f G None = (l : List ℕ) → G l → ⊥
 
 -- All of r is out for these lists: what was out before, and beside that what none of them has.
 pub record OutFor (col : Column) (rs : Courses) (s out want : Choice) (k : ℕ) (r : Choice) : Type 0 where
@@ -86,9 +87,9 @@ pub record OutFor (col : Column) (rs : Courses) (s out want : Choice) (k : ℕ) 
   pub misses : (l : List ℕ) → Among col rs s out want k l → Misses (is_in l) col.fact r
 
 -- What is out for these lists, or that there are none.
-abbrev pub Reached : Column → Courses → Choice → Choice → Choice → ℕ → Bool → Choice → Type 0
-Reached col rs s out want k true r = OutFor col rs s out want k r
-Reached col rs s out want k false r = (l : List ℕ) → Among col rs s out want k l → ⊥
+abbrev pub Reached : Column → Courses → Choice → Choice → Choice → ℕ → Option Choice → Type 0
+Reached col rs s out want k (Some r) = OutFor col rs s out want k r
+Reached col rs s out want k None = (l : List ℕ) → Among col rs s out want k l → ⊥
 
 -- The lists have the same repairs of fact f with codes below n.
 abbrev pub Agree : ℕ → ℕ → List ℕ → List ℕ → Type 0
@@ -104,14 +105,14 @@ pub record Earlier (col : Column) (rs : Courses) (best : Choice) (from n : ℕ) 
 
 -- A shortest list that keeps the column's fact right, if that has at most six repairs; or nothing, and then every list that
 -- does has more.
-abbrev pub Short : Column → Courses → Bool → Choice → Type 0
-Short col rs true r =
+abbrev pub Short : Column → Courses → Option Choice → Type 0
+Short col rs (Some r) =
     KeepsIn col rs (list_of col.fact r) × (length (list_of col.fact r) ≤ max_row)
     × ((l : List ℕ) → KeepsIn col rs l → length (list_of col.fact r) ≤ length l)
-Short col rs false r = (l : List ℕ) → KeepsIn col rs l → max_row < length l
+Short col rs None = (l : List ℕ) → KeepsIn col rs l → max_row < length l
 
 -- What the whole search of a column gives: the first of the shortest lists that keep its fact right, if that has at
 -- most six; or nothing, and then every list that does has more.
-abbrev pub Shortest : Column → Courses → Bool → Choice → Type 0
-Shortest col rs true best = First (KeepsIn col rs) (list_of col.fact best) × (length (list_of col.fact best) ≤ max_row)
-Shortest col rs false best = (l : List ℕ) → KeepsIn col rs l → max_row < length l
+abbrev pub Shortest : Column → Courses → Option Choice → Type 0
+Shortest col rs (Some best) = First (KeepsIn col rs) (list_of col.fact best) × (length (list_of col.fact best) ≤ max_row)
+Shortest col rs None = (l : List ℕ) → KeepsIn col rs l → max_row < length l

@@ -7,7 +7,8 @@ use Rattle.table.specs.Tasks.{start_of, goal_of}
 use Rattle.table.specs.declared.Task.{Task}
 use Rattle.choices.specs.declared.Choice.{Choice}
 use Rattle.choices.specs.Choices.{in_choice, code_number}
-use Rattle.search.specs.Columns.{Column, cells_in}
+use Rattle.search.specs.declared.Column.{Column}
+use Rattle.search.specs.Columns.{cells_in}
 
 -- The actions, or the runs, whose set has fact f.
 abbrev pub Gathers : (ℕ → ℕ) → ℕ → ℕ → Type 0
@@ -25,8 +26,8 @@ pub record Shows (t : Task) (col : Column) : Type 0 where
   pub deletes : Gathers (λ a. get_or t.table.deletes a 0) col.fact col.deletes
   pub locks : Gathers (λ a. get_or t.table.locks a 0) col.fact col.locks
   pub runs : col.runs ≡ t.runs.many
-  pub start : Gathers (start_of t.runs) col.fact col.start
-  pub goal : Gathers (goal_of t.runs) col.fact col.goal
+  pub start : Gathers (start_of t.runs) col.fact col.starts
+  pub goal : Gathers (goal_of t.runs) col.fact col.goals
 
 -- Every permitted repair of the column's fact, and nothing else.
 abbrev pub Fullest : Column → Choice → Type 0

@@ -1,13 +1,10 @@
 // Of the places where the fact is missing, one with the fewest repairs left. Every such place has a conflict, and document 01
 // does not say at which to look: which one it is, is for speed alone, and what is promised is that the fact is missing there.
-ghost use Rattle.std.specs.Prelude.{◌<◌};
-ghost use Rattle.table.specs.Sizes.{max_runs};
-ghost use Rattle.search.specs.Columns.{column_in, RunFormed, course_in};
+ghost use Rattle.search.specs.Runs.{run_of};
 ghost use Rattle.search.specs.Gaps.{Gap, Noted};
 
-use crate::{CELLS, GOALS, LOCKS, STARTS, gap};
+use crate::{Column, Run};
 use choices::Choice;
-use table::{ALL_STEPS, STEPS};
 
 // A place, and how many repairs are left there.
 #[derive(Clone, Copy)]
@@ -34,11 +31,11 @@ fn opened(open: Choice, a: usize, gone: bool) -> Choice {
 }
 
 // The same with the need of the step at the place itself, if that is not locked.
-fn needed(col: &[u64; CELLS], open: Choice, a: usize) -> Choice {
+fn needed(col: &Column, open: Choice, a: usize) -> Choice {
     Choice {
         deletes: open.deletes,
         adds: open.adds,
-        needs: facts::remove(facts::with_fact(0, a), col[LOCKS]),
+        needs: facts::remove(facts::with_fact(0, a), col.locks),
     }
 }
 
@@ -50,51 +47,40 @@ fn narrower(best: Place, i: usize, count: usize, missing: bool, q: Choice) -> Pl
     if !missing {
         return best;
     }
-    let left = choices::size(q);
+    let left = q.size();
     if (best.at <= count) & (best.left < left) {
         return best;
     }
     Place { at: i, left }
 }
 
-// A place where the fact is missing, one with the fewest repairs that are not out; or the one after the goal's. With one
-// repair left, or none, there is no narrower place to look for.
-pub(crate) fn narrowest_gap(
-    col: &[u64; CELLS],
-    steps: &[u8; ALL_STEPS],
-    run: usize,
-    count: usize,
-    s: Choice,
-    out: Choice,
-) -> usize
-    requires run_lt_max_runs { run < max_runs }
-    requires run_formed { RunFormed (column_in col.now) (course_in (column_in col.now) count steps.now run) }
-    ensures { Gap (column_in col.now) (course_in (column_in col.now) count steps.now run) s result }
-{
-    let from = STEPS * run;
-    let mut present = facts::contains(col[STARTS], run);
-    let mut open = choices::nothing();
-    let mut best = Place {
-        at: count + 1,
-        left: 2,
-    };
-    for i in 0..count {
-        let a = steps[from + i] as usize;
-        let missing = gap::needs_with(col, s, a) & !present;
-        best = narrower(
-            best,
-            i,
-            count,
-            missing,
-            choices::without(needed(col, open, a), out),
-        );
-        if best.left <= 1 {
-            return best.at;
+impl Run<'_> {
+    // A place where the fact is missing, one with the fewest repairs that are not out; or the one after the goal's. With one
+    // repair left, or none, there is no narrower place to look for.
+    pub(crate) fn narrowest_gap(&self, s: Choice, out: Choice) -> usize
+        ensures { Gap self.now.col.now (run_of self.now) s result }
+    {
+        let col = self.col;
+        let count = self.count;
+        let mut present = facts::contains(col.starts, self.number);
+        let mut open = Choice::nothing();
+        let mut best = Place {
+            at: count + 1,
+            left: 2,
+        };
+        for i in 0..count {
+            let a = self.action(i);
+            let missing = col.needs_with(s, a) & !present;
+            let q = needed(col, open, a).without(out);
+            best = narrower(best, i, count, missing, q);
+            if best.left <= 1 {
+                return best.at;
+            }
+            let gone = col.deletes_with(s, a);
+            open = opened(open, a, gone);
+            present = (present & !gone) | col.adds_with(s, a);
         }
-        let gone = gap::deletes_with(col, s, a);
-        open = opened(open, a, gone);
-        present = (present & !gone) | gap::adds_with(col, s, a);
+        let missing = facts::contains(col.goals, self.number) & !present;
+        narrower(best, count, count, missing, open.without(out)).at
     }
-    let missing = facts::contains(col[GOALS], run) & !present;
-    narrower(best, count, count, missing, choices::without(open, out)).at
 }

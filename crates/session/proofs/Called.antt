@@ -6,7 +6,7 @@ use Prim.Native.Nat.{ℕ}
 use Rattle.change.specs.declared.Edit.{Edit}
 use Rattle.table.proofs.ContractLaws.{call_keeps}
 use Rattle.table.specs.Asks.{Call, AsksNothing}
-use Rattle.table.specs.Outcomes.{Outcome}
+use Rattle.table.specs.Outcomes.{Outcome, reply_of, made_of}
 use Rattle.table.specs.declared.Reply.{Reply}
 use Rattle.table.specs.declared.Task.{Task}
 use Rattle.session.proofs.open.Reads as opening
@@ -18,7 +18,7 @@ use Rattle.table.specs.declared.TaskReply.{TaskReply}
 -- Opening a session of t in the table s gives r and leaves `after`.
 abbrev pub OpenGives : Task → List ℕ → Reply → List ℕ → Type 0
 OpenGives t s r after =
-    Call {I = Task × List ℕ} {O = Reply × List ℕ} opening.Post (λ a. (a.0, a.1.0.now)) (λ r b. (r, b.1.0.now)) (t, s) (r, after)
+    Call {I = Task × List ℕ} {O = Reply × List ℕ} opening.Post (λ a. (a.0, a.1.0.now)) (λ r b. (reply_of r, b.1.0.now)) (t, s) (r, after)
 
 pub open_gives : (t : Task) (s : List ℕ) (r : Reply) (after : List ℕ) → OpenGives t s r after → Opens t s r after
 open_gives t s r after = call_keeps (λ i o. Opens i.0 i.1 o.0 o.1) (λ k a r b p. p) (t, s) (r, after)
@@ -26,7 +26,7 @@ open_gives t s r after = call_keeps (λ i o. Opens i.0 i.1 o.0 o.1) (λ k a r b 
 -- An edit of t in a session with the table s gives r and leaves `after`.
 abbrev pub EditGives : Task → List ℕ → Edit → TaskReply → List ℕ → Type 0
 EditGives t s e r after =
-    Call {I = Task × List ℕ × Edit} {O = TaskReply × List ℕ} editing.Post (λ a. (a.0, a.1.0.now, a.1.1.0)) (λ r b. (r, b.1.0.now))
+    Call {I = Task × List ℕ × Edit} {O = TaskReply × List ℕ} editing.Post (λ a. (a.0, a.1.0.now, a.1.1.0)) (λ r b. (made_of r, b.1.0.now))
     (t, s, e) (r, after)
 
 pub edit_gives : (t : Task) (s : List ℕ) (e : Edit) (r : TaskReply) (after : List ℕ) → EditGives t s e r after → Edits t s e r after
@@ -36,7 +36,7 @@ edit_gives t s e r after = call_keeps (λ i o. Edits i.0 i.1 i.2 o.0 o.1) (λ k 
 abbrev pub ListGives : Task → List ℕ → List ℕ → Outcome → Type 0
 ListGives t s room o =
     Call {I = Task × List ℕ × List ℕ} {O = Outcome} listing.Post (λ a. (a.0, a.1.0.now, a.1.1.0.now))
-    (λ r b. record { reply = r; room = b.1.1.0.now }) (t, s, room) o
+    (λ r b. record { reply = reply_of r; room = b.1.1.0.now }) (t, s, room) o
 
 pub list_gives : (t : Task) (s room : List ℕ) (o : Outcome) → ListGives t s room o → o ≡ listed t s room
 list_gives t s room o = call_keeps (λ i o. o ≡ listed i.0 i.1 i.2) (λ k a r b p. p) (t, s, room) o

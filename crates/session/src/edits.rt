@@ -22,49 +22,30 @@ pub const LOCK: usize = 5;
 pub const ABSENT: usize = 0;
 
 // A number that is no kind names a fact that no task has.
+#[tactic(auto, unfolding(crate::specs::EditNumbers::cell_of))]
 fn cell_of(kind: usize, whose: usize, fact: usize) -> Cell
     ensures { result ≡ cell_of kind whose fact }
 {
-    if kind == NEED {
-        Cell::Need {
-            action: whose,
-            fact,
-        }
-    } else if kind == ADD {
-        Cell::Add {
-            action: whose,
-            fact,
-        }
-    } else if kind == DELETE {
-        Cell::Delete {
-            action: whose,
-            fact,
-        }
-    } else if kind == START {
-        Cell::Start { run: whose, fact }
-    } else if kind == GOAL {
-        Cell::Goal { run: whose, fact }
-    } else if kind == LOCK {
-        Cell::Lock {
-            action: whose,
-            fact,
-        }
-    } else {
-        Cell::Start {
-            run: whose,
-            fact: FACTS,
-        }
+    let (action, run) = (whose, whose);
+    match kind {
+        NEED => Cell::Need { action, fact },
+        ADD => Cell::Add { action, fact },
+        DELETE => Cell::Delete { action, fact },
+        START => Cell::Start { run, fact },
+        GOAL => Cell::Goal { run, fact },
+        LOCK => Cell::Lock { action, fact },
+        _ => Cell::Start { run, fact: FACTS },
     }
 }
 
 // The edit of four numbers, for every caller who gives an edit as numbers. Every number but 0 is present, as C has it of a truth: no
 // caller clears a cell by passing 2.
+#[tactic(auto, unfolding(crate::specs::EditNumbers::edit_of))]
 pub fn edit_of(kind: usize, whose: usize, fact: usize, present: usize) -> Edit
     ensures { result ≡ edit_of kind whose fact present }
 {
-    let cell = cell_of(kind, whose, fact);
     Edit {
-        cell,
+        cell: cell_of(kind, whose, fact),
         present: present != ABSENT,
     }
 }

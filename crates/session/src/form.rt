@@ -13,23 +13,23 @@ use table::repair::Repair;
 use table::{FACTS, ROW, SESSION_PLACES, Table, Task, UNUSED, permitted};
 
 // "permitted, ascending repairs of its own fact"
+#[tactic(auto, unfolding(crate::specs::Sessions::repair_in_form))]
 fn is_repair_in_form(t: Table, table: &[u16], f: usize, i: usize) -> bool
     requires { i < max_row }
     ensures { result ≡ repair_in_form (cells_of t) f (row_at table.now f) i }
 {
     let before = report::number_at(table, f, i);
     let n = report::number_at(table, f, i + 1);
-    let fact = Repair::of(n).fact;
-    permitted::is_permitted(t, n) & (fact == f) & ((i == 0) | (before < n))
+    permitted::is_permitted(t, n) & (Repair::of(n).fact == f) & ((i == 0) | (before < n))
 }
 
 // The i-th place: one of the row's repairs, or "65535 elsewhere".
+#[tactic(auto, unfolding(crate::specs::Sessions::place_in_form))]
 fn is_place_in_form(t: Table, table: &[u16], f: usize, i: usize) -> bool
     requires { i < max_row }
     ensures { result ≡ place_in_form (cells_of t) f (row_at table.now f) i }
 {
-    let count = report::repairs_at(table, f);
-    if i < count {
+    if i < report::repairs_at(table, f) {
         is_repair_in_form(t, table, f, i)
     } else {
         report::number_at(table, f, i + 1) == UNUSED as usize
@@ -47,6 +47,7 @@ fn are_places_in_form(t: Table, table: &[u16], f: usize) -> bool
 }
 
 // "a first number 0 to 8, .. rows from F up are empty"
+#[tactic(auto, unfolding(crate::specs::Sessions::row_in_form, table::specs::Tasks::cells_of))]
 fn is_row_in_form(t: Table, table: &[u16], f: usize) -> bool
     ensures { result ≡ row_in_form (cells_of t) f (row_at table.now f) }
 {
@@ -66,13 +67,9 @@ fn are_rows_in_form(t: Table, table: &[u16]) -> bool
 }
 
 // Whether the table is in form, for any task and any table whatever.
+#[tactic(auto, unfolding(crate::specs::Sessions::in_form))]
 pub fn is_in_form(t: Task, table: &[u16]) -> bool
     ensures { result ≡ in_form t table.now }
 {
-    let cells = t.table;
-    if table.len() == SESSION_PLACES {
-        are_rows_in_form(cells, table)
-    } else {
-        false
-    }
+    table.len() == SESSION_PLACES && are_rows_in_form(t.table, table)
 }

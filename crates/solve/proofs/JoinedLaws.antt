@@ -1,29 +1,32 @@
 -- Laws of the rows joined as they come: the wrong facts come in order, and a fact that is right adds nothing. Assumes nothing.
 use mathlib.Core.Bool.{Bool, true, false, ◌||◌, cond, true≢false}
 use mathlib.Core.List.{List, [], ◌++◌}
+use mathlib.Core.Logic.{◌⊎◌, inl, inr}
 use mathlib.Core.Path.{◌≡◌, refl, sym, ap, ◌∙◌, subst}
 use Prim.Native.Nat.{ℕ, ◌+◌, ◌-◌, ◌*◌, ◌<◌, ◌≤◌}
 use native.Mathlib.Omega.{arith}
-use borrow.Author.Tests.{eqb-true, eqb-false, eq-eqb, ne_eqb, lt-ltb, ltb-true}
-use lib.Dec.{eqb, leb, ltb}
+use borrow.Author.Tests.{eqb-true, eqb-false, eq-eqb, ne_eqb}
+use lib.Dec.{eqb, leb}
 use lib.ListN.{length, get_or, take, drop, length-drop}
 use lib.Seq.{length-take-le, length_paste_head, take-append_seam, take-length}
 use Rattle.facts.specs.Sets.{has, only, removed, lowest}
 use Rattle.facts.proofs.Counting.{lowest_first}
 use Rattle.facts.proofs.Laws.{has_empty}
-use Rattle.search.specs.Rows.{row_over, row_hopeless, verdict_in, RowFor, RightRow}
-use Rattle.search.specs.Columns.{Column, courses_in, KeepsIn, ColumnFormed}
+use Rattle.search.specs.Rows.{row_hopeless, verdict_in, RowFor, RightRow}
+use Rattle.search.specs.declared.Column.{Column}
+use Rattle.search.specs.Columns.{courses_in, KeepsIn, ColumnFormed}
 use Rattle.search.specs.Views.{Shows}
 use Rattle.search.proofs.RowLaws.{row_shown}
 use Rattle.search.proofs.ViewLaws.{shows_formed}
 use Rattle.table.specs.Answer.{Verdict, found, over, hopeless, Within}
-use Rattle.table.specs.Counting.{some_below, first_where}
+use Rattle.table.specs.Counting.{some_below}
 use Rattle.table.specs.Join.{is_hopeless, is_over, found_list, join_lists, join_verdicts}
+use Rattle.table.specs.Refusals.{accepted}
 use Rattle.table.specs.Sizes.{max_facts, max_limit, max_row, row_places, all_rows}
 use Rattle.table.specs.Tasks.{KeepsFor, WellFormed}
 use Rattle.table.specs.declared.Reply.{Reply}
 use Rattle.table.specs.declared.Task.{Task}
-use Rattle.table.proofs.CountingLaws.{first_where_at, some_below_first, some_below_next, some_passes, none_passes}
+use Rattle.table.proofs.CountingLaws.{some_below_first, some_below_next, some_passes}
 use Rattle.table.proofs.FlagLaws.{same_flag, by_order}
 use Rattle.table.proofs.GatherLaws.{gather_zero, gather_same, gather_none, gather_step, gather_step_length}
 use Rattle.table.proofs.JoinLaws.{join_for}
@@ -31,13 +34,13 @@ use Rattle.rows.specs.Copies.{pasted}
 use Rattle.rows.specs.Tables.{empty_row, repairs_in}
 use Rattle.rows.specs.Wrong.{WrongFacts}
 use Rattle.rows.proofs.TableLaws.{right_verdict}
-use Rattle.rows.proofs.LeftLaws.{wrong_low, lowest_in, lowest_inside, without_less, without_in, without_out}
+use Rattle.rows.proofs.LeftLaws.{wrong_low, lowest_in, lowest_inside, without_in, without_out}
 use Rattle.rows.proofs.WrongLaws.{right_empty}
 use Rattle.solve.specs.Joins.{Joins}
-use Rattle.solve.specs.Reports.{reply_for}
+use Rattle.solve.specs.Reports.{with_first, reply_for}
 use Rattle.solve.specs.Solving.{Solves}
 use Rattle.solve.specs.declared.join.Tally.{Tally}
-use Rattle.solve.proofs.ReportLaws.{row_hopeless_lem, row_over_lem, row_list, announced_repairs, repairs_low, ComeTo, reply_given, numbers_told}
+use Rattle.solve.proofs.ReportLaws.{row_hopeless_lem, row_over_lem, row_list, announced_repairs, repairs_low, passes_some, ComeTo, reply_given, numbers_told}
 use Rattle.solve.proofs.SolveLaws.{solves_verdict}
 
 -- ---- one row more
@@ -71,51 +74,27 @@ module _ (j : Tally) (row : List ℕ) (whole : length row ≡ row_places) (low :
 
   -- The row's numbers added, with this list.
   abbrev added : List ℕ → Tally
-  added l = record {
-    hopeless = j.hopeless || eqb (get_or row 0 0) row_hopeless;
-    over = j.over || eqb (get_or row 0 0) row_over;
-    total = j.total + count;
-    list = l;
-  }
+  added l = record { sum = with_first j.sum (get_or row 0 0); list = l }
 
-  joins_with : (l : List ℕ) → (j.total + count ≤ max_limit → take (j.total + count) l ≡ take j.total j.list ++ take count (drop 1 row))
+  joins_with : (l : List ℕ) → (j.sum.total + count ≤ max_limit → take (j.sum.total + count) l ≡ take j.sum.total j.list ++ take count (drop 1 row))
       → Joins j (verdict_in row) (added l)
   joins_with l put = record {
-    hopeless = ap (λ (b : Bool). j.hopeless || b) (sym (row_hopeless_lem row));
-    over = ap (λ (b : Bool). j.over || b) (sym (row_over_lem row));
-    total = ap (λ (k : ℕ). j.total + k) (sym (ap length (sym same_list) ∙ length-take-le count (drop 1 row) enough));
-    list = λ k. put k ∙ ap (λ (x : List ℕ). take j.total j.list ++ x) same_list;
+    hopeless = ap (λ (b : Bool). j.sum.hopeless || b) (sym (row_hopeless_lem row));
+    over = ap (λ (b : Bool). j.sum.over || b) (sym (row_over_lem row));
+    total = ap (λ (k : ℕ). j.sum.total + k) (sym d ∙ sym (ap length (sym same_list) ∙ length-take-le count (drop 1 row) enough));
+    list = λ k.
+        ap (λ (n : ℕ). take (j.sum.total + n) l) (sym d) ∙ put (omega (arith, d)) ∙ ap (λ (x : List ℕ). take j.sum.total j.list ++ x) same_list;
   }
 
-  pub joins_none : max_limit < j.total + count → Joins j (verdict_in row) (added j.list)
-  joins_none h = joins_with j.list (λ k. absurd (omega arith))
+  pub joins_none : max_limit < (with_first j.sum (get_or row 0 0)).total → Joins j (verdict_in row) (added j.list)
+  joins_none h = joins_with j.list (λ k. absurd (omega (arith, d)))
 
-  pub joins_row : (l : List ℕ) → j.total ≤ length j.list → l ≡ pasted j.list j.total (drop 1 row) count
+  pub joins_row : (l : List ℕ) → j.sum.total ≤ length j.list → l ≡ pasted j.list j.sum.total (drop 1 row) count
       → Joins j (verdict_in row) (added l)
   joins_row l h w =
-      joins_with l (λ k. ap (take (j.total + count)) w ∙ taken_pasted j.list j.total (drop 1 row) count h enough)
+      joins_with l (λ k. ap (take (j.sum.total + count)) w ∙ taken_pasted j.list j.sum.total (drop 1 row) count h enough)
 
 -- ---- tests and lists that nothing is added to
-
--- one that passes
-passes_some : (p : ℕ → Bool) (n i : ℕ) → i < n → p i ≡ true → some_below p n ≡ true
-passes_some p n i h e = pick (some_below p n) refl
-  where
-    pick : (b : Bool) → some_below p n ≡ b → b ≡ true
-    pick true q = refl
-    pick false q = absurd (true≢false (sym e ∙ none_passes p n q i h))
-
--- the first that passes
-first_some : (p : ℕ → Bool) (n : ℕ) → some_below p n ≡ ltb (first_where p n) n
-first_some p n =
-    same_flag (some_below p n) (ltb (first_where p n) n)
-    (λ h.
-    let q = some_passes p n h in
-    lt-ltb (first_where p n) n
-    (by_order (first_where p n) n (λ l. l) (λ l. absurd (true≢false (sym q.2 ∙ (first_where_at p n).before q.0 (omega (arith, q.1)))))))
-    (λ h.
-    let l = ltb-true (first_where p n) n h in
-    passes_some p n (first_where p n) l ((first_where_at p n).holds l))
 
 -- Two tests that agree below m, and of which the second fails from there up to n.
 some_along : (p q : ℕ → Bool) (m n : ℕ) → m ≤ n → ((i : ℕ) → i < m → p i ≡ q i) → ((i : ℕ) → m ≤ i → i < n → q i ≡ false)
@@ -133,10 +112,10 @@ some_along p q m n h same none =
 
 -- What the verdicts of the facts below n come to, with the joined list as long as an answer can be.
 pub record JoinOf (v : ℕ → Verdict) (n : ℕ) (j : Tally) : Type 0 where
-  pub hopeless : j.hopeless ≡ some_below (λ f. is_hopeless (v f)) n
-  pub over : j.over ≡ some_below (λ f. is_over (v f)) n
-  pub total : j.total ≡ length (join_lists v n)
-  pub list : j.total ≤ max_limit → take j.total j.list ≡ join_lists v n
+  pub hopeless : j.sum.hopeless ≡ some_below (λ f. is_hopeless (v f)) n
+  pub over : j.sum.over ≡ some_below (λ f. is_over (v f)) n
+  pub total : j.sum.total ≡ length (join_lists v n)
+  pub list : j.sum.total ≤ max_limit → take j.sum.total j.list ≡ join_lists v n
 
 -- Facts without repairs add nothing.
 join_along : (v u : ℕ → Verdict) (m n : ℕ) (j : Tally) → m ≤ n → ((f : ℕ) → f < m → v f ≡ u f) → ((f : ℕ) → m ≤ f → f < n → u f ≡ found [])
@@ -168,19 +147,21 @@ join_next v f j next b a = record {
 -- The rows of the facts below `at` are joined: of those that were wrong, and of the others, which are without repairs. The wrong facts that are left
 -- come after; as long as they are left, nothing is said of them.
 pub record Joining (t : Task) (left : ℕ) (j : Tally) : Type 0 where
+  pub well : WellFormed t
   pub says : ℕ → Verdict
   pub within : (f : ℕ) → has left f ≡ false → Within (KeepsFor t f) max_row (says f)
   pub at : ℕ
   pub low : at ≤ t.table.facts
   pub none : (f : ℕ) → at ≤ f → says f ≡ found []
   pub ahead : (f : ℕ) → has left f ≡ true → (at ≤ f) × (f < t.table.facts)
-  pub bound : j.total ≤ max_row * at
+  pub bound : j.sum.total ≤ max_row * at
   pub joined : JoinOf says at j
 
 pub joining_none : (t : Task) → WellFormed t → (wrong : ℕ) → WrongFacts t wrong → (l : List ℕ)
-    → Joining t wrong (record { hopeless = false; over = false; total = 0; list = l })
+    → Joining t wrong (record { sum = record { hopeless = false; over = false; total = 0 }; list = l })
 unfolding verdict_in found_list is_hopeless is_over
 joining_none t w wrong known l = record {
+  well = w;
   says = λ f. found [];
   within = λ f h. right_verdict t f empty_row (right_empty t wrong known f h);
   at = 0;
@@ -204,16 +185,13 @@ found_low G k over w = omega arith
 found_low G k hopeless w = omega arith
 
 -- The repairs of one row more can be counted.
-pub joining_small : (t : Task) → WellFormed t → (left : ℕ) (j : Tally) → Joining t left j → j.total ≤ all_rows
+pub joining_small : (t : Task) → WellFormed t → (left : ℕ) (j : Tally) → Joining t left j → j.sum.total ≤ all_rows
 joining_small t w left j b = omega (arith, b.bound, b.low, w.facts_high)
 
 -- A turn: the lowest of the facts that are left.
 module _ (t : Task) (w : WellFormed t) (left : ℕ) (j : Tally) (b : Joining t left j) (some : 0 < left) (f : ℕ) (e : f ≡ lowest left) where
   inside : f < t.table.facts
   inside = lowest_inside t w left some (λ g h. (b.ahead g h).1) f e
-
-  pub joining_fewer : (rest : ℕ) → rest ≡ removed left (only f) → rest < left
-  joining_fewer = without_less t w left some (λ g h. (b.ahead g h).1) f e
 
   -- The column of that fact is searched for its row.
   module _ (col : Column) (shown : (col.fact ≡ f) × Shows t col) where
@@ -230,6 +208,7 @@ module _ (t : Task) (w : WellFormed t) (left : ℕ) (j : Tally) (b : Joining t l
   joining_more row next rest right a n =
       let at : b.at ≤ f = (b.ahead f (lowest_in t w left some (λ g h. (b.ahead g h).1) f e)).0 in
       record {
+        well = w;
         says = v;
         within = λ g h. within g h (eqb g f) refl;
         at = f + 1;
@@ -275,29 +254,27 @@ module _ (t : Task) (w : WellFormed t) (room : List ℕ) (left : ℕ) (done : le
   whole = join_along b.says b.says b.at t.table.facts j b.low (λ f l. refl) (λ f l k. b.none f l) b.joined
 
   -- What is written of the list held is written of the joined list.
-  same_taken : (r : Reply) → r ≡ reply_for j.hopeless j.over j.total t.table.limit (length room)
+  same_taken : (r : Reply) → r ≡ reply_for j.sum.hopeless j.sum.over j.sum.total t.table.limit (length room)
       → take r.length j.list ≡ take r.length all
-  same_taken r e = pick (eqb r.length 0) refl
+  same_taken r e = pick (reply_given j.sum.hopeless j.sum.over j.sum.total t.table.limit (length room) r e)
     where
-      pick : (x : Bool) → eqb r.length 0 ≡ x → take r.length j.list ≡ take r.length all
-      pick true q =
-          let z = eqb-true r.length 0 q in
-          ap (λ (k : ℕ). take k j.list) z ∙ sym (ap (λ (k : ℕ). take k all) z)
-      pick false q =
-          let g = reply_given j.hopeless j.over j.total t.table.limit (length room) r e (eqb-false r.length 0 q) in
+      pick : ((r.number ≡ accepted → ⊥) × (r.length ≡ 0)) ⊎ ((r.length ≡ j.sum.total) × (j.sum.total ≤ t.table.limit) × (j.sum.total ≤ length room))
+          → take r.length j.list ≡ take r.length all
+      pick (inl z) = ap (λ (k : ℕ). take k j.list) z.1 ∙ sym (ap (λ (k : ℕ). take k all) z.1)
+      pick (inr g) =
           ap (λ (k : ℕ). take k j.list) g.0 ∙ whole.list (omega (arith, g.1, w.limit_high)) ∙ sym (take-length all) ∙
           ap (λ (k : ℕ). take k all) (sym (g.0 ∙ whole.total))
 
-  pub joining_solves : (r : Reply) (after : List ℕ) → r ≡ reply_for j.hopeless j.over j.total t.table.limit (length room)
+  pub joining_solves : (r : Reply) (after : List ℕ) → r ≡ reply_for j.sum.hopeless j.sum.over j.sum.total t.table.limit (length room)
       → after ≡ take r.length j.list ++ drop r.length room → Solves t room (record { reply = r; room = after })
   joining_solves r after e d =
       let n : ℕ = t.table.facts in
-      let comes : ComeTo b.says n j.hopeless j.over j.total = record {
+      let comes : ComeTo b.says n j.sum.hopeless j.sum.over j.sum.total = record {
         hopeless = whole.hopeless;
-        over = whole.over ∙ first_some (λ f. is_over (b.says f)) n;
+        over = whole.over;
         total = whole.total;
       } in
       solves_verdict t room w (join_verdicts b.says n t.table.limit)
       (join_for t w b.says (λ f h. b.within f (ap (λ (m : ℕ). has m f) done ∙ has_empty f))) _
-      (numbers_told b.says n t.table.limit room j.hopeless j.over j.total comes r after e
+      (numbers_told b.says n t.table.limit room j.sum.hopeless j.sum.over j.sum.total comes r after e
       (d ∙ ap (λ (l : List ℕ). l ++ drop r.length room) (same_taken r e)))

@@ -1,28 +1,31 @@
 -- Laws of the report: what one row more adds to the sum and to the room, and what the numbers tell.
 -- Assumes nothing.
-use mathlib.Core.Bool.{Bool, true, false, cond, ◌||◌}
+use mathlib.Core.Bool.{Bool, true, false, cond, ◌||◌, true≢false}
 use mathlib.Core.List.{List, ◌++◌}
+use mathlib.Core.Logic.{◌⊎◌, inl, inr}
 use mathlib.Core.Path.{◌≡◌, refl, sym, ap, ◌∙◌, subst}
 use Prim.Native.Nat.{ℕ, ◌+◌, ◌*◌, ◌<◌, ◌≤◌}
+use Rattle.std.specs.Prelude.{Ok, Err}
 use native.Mathlib.Omega.{arith}
 use lib.Dec.{eqb, leb, ltb}
 use lib.ListN.{length, get_or, take, drop, length-append, length-drop}
 use lib.Seq.{get_or-take, get_or-drop, ext_get_or, length-take-le, take-append_seam, take-length, drop-append-add, drop-drop}
-use borrow.Author.Tests.{eqb-true, eqb-false, leb-true, leb-false, le-leb, lt-leb, ltb-true, ltb-false}
+use borrow.Author.Tests.{lt-ltb, eqb-true, eqb-false, leb-true, leb-false, le-leb, lt-leb, ltb-true, ltb-false}
 use Rattle.search.specs.Rows.{row_over, row_hopeless, verdict_in}
 use Rattle.table.specs.Counting.{some_below, first_where}
 use Rattle.table.specs.Answer.{Verdict, found, over, hopeless}
 use Rattle.table.specs.Join.{is_hopeless, is_over, found_list, join_lists, Joined, no_list, beyond, in_order, join_rows, read_against, join_verdicts}
 use Rattle.table.specs.Refusals.{accepted, no_list_works, over_the_limit, room_too_short}
 use Rattle.table.specs.Sizes.{max_facts, max_row, row_places}
-use Rattle.table.proofs.FlagLaws.{or_neither, by_order}
-use Rattle.table.proofs.CountingLaws.{some_below_first, some_below_next, first_where_zero, first_where_next}
+use Rattle.table.proofs.FlagLaws.{or_neither, same_flag, by_order}
+use Rattle.table.proofs.CountingLaws.{some_below_first, some_below_next, some_passes, none_passes, first_where_at}
 use Rattle.table.proofs.GatherLaws.{gather_zero, gather_step, gather_part}
 use Rattle.rows.specs.Copies.{pasted}
-use Rattle.solve.specs.Reports.{sum_of, reply_for}
+use Rattle.solve.specs.Reports.{with_first, sum_of, reply_for}
 use Rattle.solve.specs.Solving.{told}
-use Rattle.table.specs.Outcomes.{Outcome, refusal}
+use Rattle.table.specs.Outcomes.{Outcome, refusal, reply_of}
 use Rattle.table.specs.declared.Reply.{Reply}
+use Rattle.table.specs.declared.refusals.Refusal.{Refusal}
 use Rattle.table.proofs.OutcomeLaws.{given_short, given_whole}
 use Rattle.rows.specs.Tables.{row_at, verdict_at, repairs_in, Readable}
 use Rattle.solve.specs.declared.report.Sum.{Sum}
@@ -113,21 +116,22 @@ module _ (s : List ℕ) (n : ℕ) (low : n ≤ max_facts) (r : Readable s n) (f 
 
 -- ---- the sum, row by row
 
--- The rows below f are summed: one of them says 8, the first that says 7, and the sum of their lengths.
-pub record Summed (s : List ℕ) (n : ℕ) (a : Bool) (b m f : ℕ) : Type 0 where
+-- The rows below f are summed.
+pub record Summed (s : List ℕ) (n : ℕ) (sum : Sum) (f : ℕ) : Type 0 where
   pub low : f ≤ n
-  pub hopeless : a ≡ some_below (λ g. is_hopeless (verdict_at s g)) f
-  pub beyond : b ≡ first_where (λ g. is_over (verdict_at s g)) f
-  pub total : m ≡ length (join_lists (verdict_at s) f)
-  pub bound : m ≤ max_row * f
+  pub same : sum ≡ sum_of s f
+  pub bound : sum.total ≤ max_row * f
 
 module _ (s : List ℕ) (n : ℕ) where
-  pub summed_none : Summed s n false 0 0 0
+  pub summed_none : Summed s n (record { hopeless = false; over = false; total = 0 }) 0
+  unfolding sum_of
   summed_none = record {
     low = omega arith;
-    hopeless = sym (some_below_first (λ g. is_hopeless (verdict_at s g)));
-    beyond = first_where_zero (λ g. is_over (verdict_at s g));
-    total = sym (ap length (gather_zero (λ g. found_list (verdict_at s g))));
+    same = λ j. record {
+      hopeless = sym (some_below_first (λ g. is_hopeless (verdict_at s g))) j;
+      over = sym (some_below_first (λ g. is_over (verdict_at s g))) j;
+      total = sym (ap length (gather_zero (λ g. found_list (verdict_at s g)))) j;
+    };
     bound = omega arith;
   }
 
@@ -138,28 +142,32 @@ module _ (s : List ℕ) (n : ℕ) where
       ap length (gather_step (λ g. found_list (verdict_at s g)) f) ∙ length-append (join_lists (verdict_at s) f) (found_list (verdict_at s f)) ∙
       ap (λ (k : ℕ). length (join_lists (verdict_at s) f) + k) (listed_length s n low r f h)
 
-  pub summed_more : n ≤ max_facts → Readable s n → (a : Bool) (b m f first next count : ℕ) → f < n → first ≡ get_or (row_at s f) 0 0
-      → next ≡ cond (eqb b f) (cond (eqb first row_over) f (f + 1)) b → count ≡ repairs_in (row_at s f) → Summed s n a b m f
-      → Summed s n (a || eqb first row_hopeless) next (m + count) (f + 1)
-  summed_more low r a b m f first next count h e k d t =
-      let p : eqb first row_hopeless ≡ is_hopeless (verdict_at s f) =
-      ap (λ (x : ℕ). eqb x row_hopeless) e ∙ sym (row_hopeless_lem (row_at s f)) in
-      let q : eqb first row_over ≡ is_over (verdict_at s f) = ap (λ (x : ℕ). eqb x row_over) e ∙ sym (row_over_lem (row_at s f)) in
-      record {
-        low = omega arith;
-        hopeless = (λ j. t.hopeless j || p j) ∙ sym (some_below_next (λ g. is_hopeless (verdict_at s g)) f);
-        beyond = k ∙ (λ j. cond (eqb (t.beyond j) f) (cond (q j) f (f + 1)) (t.beyond j)) ∙ sym (first_where_next (λ g. is_over (verdict_at s g)) f);
-        total = (λ j. t.total j + d j) ∙ sym (joined_length low r f h);
-        bound = omega (arith, repairs_low (row_at s f), t.bound);
-      }
+  sum_next : n ≤ max_facts → Readable s n → (f : ℕ) → f < n → with_first (sum_of s f) (get_or (row_at s f) 0 0) ≡ sum_of s (f + 1)
+  unfolding sum_of repairs_in
+  sum_next low r f h = λ j. record {
+    hopeless = (ap (λ (b : Bool). some_below (λ g. is_hopeless (verdict_at s g)) f || b) (sym (row_hopeless_lem (row_at s f))) ∙
+        sym (some_below_next (λ g. is_hopeless (verdict_at s g)) f)) j;
+    over = (ap (λ (b : Bool). some_below (λ g. is_over (verdict_at s g)) f || b) (sym (row_over_lem (row_at s f))) ∙
+        sym (some_below_next (λ g. is_over (verdict_at s g)) f)) j;
+    total = sym (joined_length low r f h) j;
+  }
 
-  pub summed_end : (a : Bool) (b m f : ℕ) → n ≤ f → Summed s n a b m f
-      → ◌≡◌ {A = Sum} (record { hopeless = a; beyond = b; total = m }) (sum_of s n)
-  unfolding sum_of
-  summed_end a b m f h t =
+  total_next : (sum : Sum) (first : ℕ) → (with_first sum first).total ≤ sum.total + max_row
+  total_next sum first =
+      by_order max_row first (λ h. rw (lt-leb first max_row h) (omega arith)) (λ h. rw (le-leb first max_row h) (omega arith))
+
+  pub summed_more : n ≤ max_facts → Readable s n → (sum next : Sum) (f first : ℕ) → f < n → first ≡ get_or (row_at s f) 0 0
+      → next ≡ with_first sum first → Summed s n sum f → Summed s n next (f + 1)
+  summed_more low r sum next f first h e d t = record {
+    low = omega arith;
+    same = d ∙ (λ j. with_first (t.same j) (e j)) ∙ sum_next low r f h;
+    bound = omega (arith, ap (λ (x : Sum). x.total) d, total_next sum first, t.bound);
+  }
+
+  pub summed_end : (sum : Sum) (f : ℕ) → n ≤ f → Summed s n sum f → sum ≡ sum_of s n
+  summed_end sum f h t =
       let e : f ≡ n = omega (arith, t.low) in
-      let q = subst (λ (g : ℕ). Summed s n a b m g) e t in
-      λ j. record { hopeless = q.hopeless j; beyond = q.beyond j; total = q.total j }
+      t.same ∙ ap (sum_of s) e
 
 -- ---- the lists, one after another into the room
 
@@ -218,12 +226,33 @@ module _ (s : List ℕ) (n : ℕ) (before : List ℕ) where
       let e : f ≡ n = omega (arith, t.low) in
       (subst (λ (g : ℕ). Listed s n before after at g) e t).room
 
+-- ---- some test passes, and the first that does
+
+pub passes_some : (p : ℕ → Bool) (n i : ℕ) → i < n → p i ≡ true → some_below p n ≡ true
+passes_some p n i h e = pick (some_below p n) refl
+  where
+    pick : (b : Bool) → some_below p n ≡ b → b ≡ true
+    pick true q = refl
+    pick false q = absurd (true≢false (sym e ∙ none_passes p n q i h))
+
+-- the first that passes
+first_some : (p : ℕ → Bool) (n : ℕ) → some_below p n ≡ ltb (first_where p n) n
+first_some p n =
+    same_flag (some_below p n) (ltb (first_where p n) n)
+    (λ h.
+    let q = some_passes p n h in
+    lt-ltb (first_where p n) n
+    (by_order (first_where p n) n (λ l. l) (λ l. absurd (true≢false (sym q.2 ∙ (first_where_at p n).before q.0 (omega (arith, q.1)))))))
+    (λ h.
+    let l = ltb-true (first_where p n) n h in
+    passes_some p n (first_where p n) l ((first_where_at p n).holds l))
+
 -- ---- what the numbers tell
 
 -- What the verdicts of the facts below n come to: one is hopeless, one is beyond a row, and the sum of the lengths.
 pub record ComeTo (v : ℕ → Verdict) (n : ℕ) (a b : Bool) (m : ℕ) : Type 0 where
   pub hopeless : a ≡ some_below (λ f. is_hopeless (v f)) n
-  pub over : b ≡ ltb (first_where (λ f. is_over (v f)) n) n
+  pub over : b ≡ some_below (λ f. is_over (v f)) n
   pub total : m ≡ length (join_lists v n)
 
 -- The answer, by the three tests that it depends on.
@@ -233,19 +262,27 @@ by_tests m x y z =
     (cond {A = Reply} y (refusal over_the_limit)
     (cond {A = Reply} z (refusal room_too_short) (record { number = accepted; place = 0; length = m })))
 
--- An answer with a length is the sum, within the limit and the room.
-pub reply_given : (a b : Bool) (m limit places : ℕ) (r : Reply) → r ≡ reply_for a b m limit places → (r.length ≡ 0 → ⊥)
-    → (r.length ≡ m) × (m ≤ limit) × (m ≤ places)
+-- An accepted answer is the sum, within the limit and the room; a refusal has no length.
+pub reply_given : (a b : Bool) (m limit places : ℕ) (r : Reply) → r ≡ reply_for a b m limit places
+    → ((r.number ≡ accepted → ⊥) × (r.length ≡ 0)) ⊎ ((r.length ≡ m) × (m ≤ limit) × (m ≤ places))
 unfolding reply_for
-reply_given a b m limit places r e some = pick a (b || ltb limit m) (ltb places m) refl refl e
+reply_given a b m limit places r e = pick a (b || ltb limit m) (ltb places m) refl refl e
   where
     pick : (x y z : Bool) → (b || ltb limit m) ≡ y → ltb places m ≡ z
-        → r ≡ by_tests m x y z → (r.length ≡ m) × (m ≤ limit) × (m ≤ places)
-    pick true y z p q k = absurd (some (ap (λ (u : Reply). u.length) k))
-    pick false true z p q k = absurd (some (ap (λ (u : Reply). u.length) k))
-    pick false false true p q k = absurd (some (ap (λ (u : Reply). u.length) k))
+        → r ≡ by_tests m x y z → ((r.number ≡ accepted → ⊥) × (r.length ≡ 0)) ⊎ ((r.length ≡ m) × (m ≤ limit) × (m ≤ places))
+    pick true y z p q k = inl (λ n. omega (arith, ap (λ (u : Reply). u.number) k), ap (λ (u : Reply). u.length) k)
+    pick false true z p q k = inl (λ n. omega (arith, ap (λ (u : Reply). u.number) k), ap (λ (u : Reply). u.length) k)
+    pick false false true p q k = inl (λ n. omega (arith, ap (λ (u : Reply). u.number) k), ap (λ (u : Reply). u.length) k)
     pick false false false p q k =
-        (ap (λ (u : Reply). u.length) k, ltb-false limit m (or_neither b (ltb limit m) p).1, ltb-false places m q)
+        inr (ap (λ (u : Reply). u.length) k, ltb-false limit m (or_neither b (ltb limit m) p).1, ltb-false places m q)
+
+-- So the length that is answered is the sum.
+pub total_given : (a b : Bool) (m limit places n : ℕ) → reply_of (Ok n) ≡ reply_for a b m limit places → (n ≡ m) × (m ≤ limit) × (m ≤ places)
+total_given a b m limit places n e = pick (reply_given a b m limit places (reply_of (Ok n)) e)
+  where
+    pick : ((accepted ≡ accepted → ⊥) × (n ≡ 0)) ⊎ ((n ≡ m) × (m ≤ limit) × (m ≤ places)) → (n ≡ m) × (m ≤ limit) × (m ≤ places)
+    pick (inl x) = absurd (x.0 refl)
+    pick (inr x) = x
 
 module _ (v : ℕ → Verdict) (n limit : ℕ) (room : List ℕ) (a b : Bool) (m : ℕ) (c : ComeTo v n a b m) where
   -- What the verdicts join to, by the numbers.
@@ -256,7 +293,7 @@ module _ (v : ℕ → Verdict) (n limit : ℕ) (room : List ℕ) (a b : Bool) (m
   unfolding join_rows read_against
   numbers_say =
       pick (some_below (λ f. is_hopeless (v f)) n) (ltb (first_where (λ f. is_over (v f)) n) n) ∙
-      (λ j. by_numbers (sym c.hopeless j) (sym c.over j) (sym c.total j))
+      (λ j. by_numbers (sym c.hopeless j) ((sym (first_some (λ f. is_over (v f)) n) ∙ sym c.over) j) (sym c.total j))
     where
       pick : (x y : Bool)
           → read_against limit
@@ -289,34 +326,35 @@ module _ (v : ℕ → Verdict) (n limit : ℕ) (room : List ℕ) (a b : Bool) (m
 
 -- ---- the same of a table's rows
 
-module _ (s : List ℕ) (n limit : ℕ) (room : List ℕ) (y : Sum) (e : y ≡ sum_of s n) (r : Reply)
-    (d : r ≡ reply_for y.hopeless (ltb y.beyond n) y.total limit (length room)) where
-  comes : ComeTo (verdict_at s) n y.hopeless (ltb y.beyond n) y.total
+module _ (s : List ℕ) (n limit : ℕ) (room : List ℕ) (y : Sum) (e : y ≡ sum_of s n) where
+  comes : ComeTo (verdict_at s) n y.hopeless y.over y.total
   unfolding sum_of
   comes = record {
     hopeless = ap (λ (x : Sum). x.hopeless) e;
-    over = ap (λ (x : Sum). ltb x.beyond n) e;
+    over = ap (λ (x : Sum). x.over) e;
     total = ap (λ (x : Sum). x.total) e;
   }
 
-  fits : (r.length ≡ 0 → ⊥) → (r.length ≡ y.total) × (y.total ≤ limit) × (y.total ≤ length room)
-  fits = reply_given y.hopeless (ltb y.beyond n) y.total limit (length room) r d
-
-  pub sum_fits : (r.length ≡ 0 → ⊥) → length (join_lists (verdict_at s) n) ≤ length room
-  sum_fits some = omega (arith, comes.total, (fits some).2)
-
-  told_with : (after : List ℕ) → after ≡ take r.length (join_lists (verdict_at s) n) ++ drop r.length room
+  told_with : (r : Reply) → r ≡ reply_for y.hopeless y.over y.total limit (length room) → (after : List ℕ)
+      → after ≡ take r.length (join_lists (verdict_at s) n) ++ drop r.length room
       → ◌≡◌ {A = Outcome} (record { reply = r; room = after }) (told (join_verdicts (verdict_at s) n limit) room)
-  told_with after = numbers_told (verdict_at s) n limit room y.hopeless (ltb y.beyond n) y.total comes r after d
+  told_with r d after = numbers_told (verdict_at s) n limit room y.hopeless y.over y.total comes r after d
 
   -- Nothing is to be written, and nothing was.
-  pub none_told : r.length ≡ 0 → ◌≡◌ {A = Outcome} (record { reply = r; room = room }) (told (join_verdicts (verdict_at s) n limit) room)
-  none_told none = told_with room (ap (λ (k : ℕ). take k (join_lists (verdict_at s) n) ++ drop k room) (sym none))
+  pub refusal_told : (f : Refusal) → reply_of (Err f) ≡ reply_for y.hopeless y.over y.total limit (length room)
+      → ◌≡◌ {A = Outcome} (record { reply = reply_of (Err f); room = room }) (told (join_verdicts (verdict_at s) n limit) room)
+  refusal_told f d = told_with (reply_of (Err f)) d room refl
 
-  pub answered_told : (r.length ≡ 0 → ⊥) → (after : List ℕ)
-      → after ≡ join_lists (verdict_at s) n ++ drop (length (join_lists (verdict_at s) n)) room
-      → ◌≡◌ {A = Outcome} (record { reply = r; room = after }) (told (join_verdicts (verdict_at s) n limit) room)
-  answered_told some after w =
-      let l : List ℕ = join_lists (verdict_at s) n in
-      let k : length l ≡ r.length = sym ((fits some).0 ∙ comes.total) in
-      told_with after (w ∙ ap (λ (x : List ℕ). x ++ drop (length l) room) (sym (take-length l)) ∙ ap (λ (i : ℕ). take i l ++ drop i room) k)
+  module _ (m : ℕ) (d : reply_of (Ok m) ≡ reply_for y.hopeless y.over y.total limit (length room)) where
+    fits : (m ≡ y.total) × (y.total ≤ limit) × (y.total ≤ length room)
+    fits = total_given y.hopeless y.over y.total limit (length room) m d
+
+    pub sum_fits : length (join_lists (verdict_at s) n) ≤ length room
+    sum_fits = omega (arith, comes.total, fits.2)
+
+    pub total_told : (after : List ℕ) → after ≡ join_lists (verdict_at s) n ++ drop (length (join_lists (verdict_at s) n)) room
+        → ◌≡◌ {A = Outcome} (record { reply = reply_of (Ok m); room = after }) (told (join_verdicts (verdict_at s) n limit) room)
+    total_told after w =
+        let l : List ℕ = join_lists (verdict_at s) n in
+        let k : length l ≡ m = sym (fits.0 ∙ comes.total) in
+        told_with (reply_of (Ok m)) d after (w ∙ ap (λ (x : List ℕ). x ++ drop (length l) room) (sym (take-length l)) ∙ ap (λ (i : ℕ). take i l ++ drop i room) k)

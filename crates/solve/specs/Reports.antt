@@ -1,18 +1,28 @@
 -- Reading the list off the rows: what the rows of the first facts come to, and what is answered then.
-use Rattle.std.specs.Prelude.{Bool, cond, ◌||◌, List, ℕ, ltb, length}
-use Rattle.table.specs.Counting.{some_below, first_where}
+use Rattle.std.specs.Prelude.{Bool, cond, ◌||◌, List, ℕ, ◌+◌, eqb, leb, ltb, length}
+use Rattle.search.specs.Rows.{row_over, row_hopeless}
+use Rattle.table.specs.Counting.{some_below}
 use Rattle.table.specs.Join.{is_hopeless, is_over, join_lists}
 use Rattle.table.specs.Outcomes.{refusal}
+use Rattle.table.specs.Sizes.{max_row}
 use Rattle.table.specs.Refusals.{accepted, no_list_works, over_the_limit, room_too_short}
 use Rattle.table.specs.declared.Reply.{Reply}
 use Rattle.rows.specs.Tables.{verdict_at}
 use Rattle.solve.specs.declared.report.Sum.{Sum}
 
--- Of the rows below n: does one say 8, the first that says 7 (n where there is none), and the sum of the lengths.
+-- What rows come to, with one row more, by its first number: 8 is hopeless, 7 over, and any other number is the list's length.
+abbrev pub with_first : Sum → ℕ → Sum
+with_first sum first = record {
+  hopeless = sum.hopeless || eqb first row_hopeless;
+  over = sum.over || eqb first row_over;
+  total = sum.total + cond (leb first max_row) first 0;
+}
+
+-- Of the rows below n: does one say 8, does one say 7, and the sum of the lengths.
 unfoldable pub sum_of : List ℕ → ℕ → Sum
 sum_of s n = record {
   hopeless = some_below (λ f. is_hopeless (verdict_at s f)) n;
-  beyond = first_where (λ f. is_over (verdict_at s f)) n;
+  over = some_below (λ f. is_over (verdict_at s f)) n;
   total = length (join_lists (verdict_at s) n);
 }
 

@@ -2,6 +2,8 @@
 -- and the answer, of tasks, of repair numbers, and of what is given into lent room. And the worked examples, for a reader.
 pub mod FlagLaws
 pub mod RefusalLaws
+pub mod WhyLaws
+pub mod AcceptedLaws
 pub mod ReplyLaws
 pub mod SettingLaws
 pub mod OutcomeLaws

@@ -1,6 +1,8 @@
 -- The refusal numbers of documents 01 and 02, by name, and how the order of refusals is said: an ordered list of checks,
 -- of which the first that fires is the answer.
 use Rattle.std.specs.Prelude.{Bool, cond, List, [], ◌∷◌, ℕ}
+use Rattle.table.specs.declared.refusals.Why.{Why}
+use Rattle.table.specs.declared.refusals.Why.TheVariants.{NoEnd, UnknownKind, SizesMisplaced, SizeOutside, NumberOutside, NotAscending, TooManySteps, BytesAfterEnd, NoListWorks, OverTheLimit, RoomTooShort, NotWellFormed, NotASession, NotThere, ListNotPermitted, TooManyRuns, NotTheLayout, LockWithoutNeed}
 
 -- Success (01: "Success has number 0 and place 0").
 abbrev pub accepted : ℕ
@@ -56,10 +58,35 @@ list_not_permitted = 15
 abbrev pub too_many_runs : ℕ
 too_many_runs = 16
 
+-- 02, request 4: "17 for a text outside the layout".
+abbrev pub not_the_layout : ℕ
+not_the_layout = 17
+
 -- 02, request 6: "18 for a lock set on a cell that isn't a need, or a need cleared under a lock"; in a file for a lock on a cell that isn't
 -- a need.
 abbrev pub lock_without_need : ℕ
 lock_without_need = 18
+
+-- The number of each refusal that the code names.
+abbrev pub number_of : Why → ℕ
+number_of NoEnd = no_end
+number_of UnknownKind = unknown_kind
+number_of SizesMisplaced = sizes_misplaced
+number_of SizeOutside = size_outside
+number_of NumberOutside = number_outside
+number_of NotAscending = not_ascending
+number_of TooManySteps = too_many_steps
+number_of BytesAfterEnd = bytes_after_end
+number_of NoListWorks = no_list_works
+number_of OverTheLimit = over_the_limit
+number_of RoomTooShort = room_too_short
+number_of NotWellFormed = not_well_formed
+number_of NotASession = not_a_session
+number_of NotThere = not_there
+number_of ListNotPermitted = list_not_permitted
+number_of TooManyRuns = too_many_runs
+number_of NotTheLayout = not_the_layout
+number_of LockWithoutNeed = lock_without_need
 
 -- One check: does it fire, with which number, at which place.
 pub record Check : Type 0 where

@@ -133,6 +133,30 @@ formed t =
     sizes_formed t && every_below (run_formed t) max_runs && every_below (action_formed t.table) max_actions &&
     every_below (locks_formed t.table.needs t.table.locks) max_actions && every_below (step_formed t) all_steps
 
+-- No run; and a task of zeros, what a refused read returns.
+abbrev pub no_runs : Runs
+no_runs = record {
+  many = 0;
+  starts = replicate max_runs 0;
+  goals = replicate max_runs 0;
+  counts = replicate max_runs 0;
+  steps = replicate all_steps 0;
+}
+
+abbrev pub no_task : Task
+no_task = record {
+  table = record {
+    facts = 0;
+    actions = 0;
+    limit = 0;
+    needs = replicate max_actions 0;
+    adds = replicate max_actions 0;
+    deletes = replicate max_actions 0;
+    locks = replicate max_actions 0;
+  };
+  runs = no_runs;
+}
+
 -- An array of the code has its declared length; the lists of the logic do not say so by themselves.
 pub record Shaped (t : Task) : Type 0 where
   pub needs : length t.table.needs ≡ max_actions

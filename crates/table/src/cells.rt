@@ -3,8 +3,6 @@
 ghost use Rattle.std.specs.Prelude.{◌≡◌};
 ghost use Rattle.table.specs.Setting.{set_fact, set_in};
 
-use crate::{ACTIONS, RUNS};
-
 // The set with one fact present or absent; a fact that a mask has no room for changes nothing.
 pub fn set_fact(m: u64, fact: usize, present: bool) -> u64
     ensures { result ≡ set_fact m fact present }
@@ -16,24 +14,13 @@ pub fn set_fact(m: u64, fact: usize, present: bool) -> u64
     }
 }
 
-// The same in the set of one action; an action that is none changes nothing.
-pub fn set_in(sets: [u64; ACTIONS], action: usize, fact: usize, present: bool) -> [u64; ACTIONS]
-    ensures { result ≡ set_in sets action fact present }
+// The same in the set of one action, or of one run; one that is none changes nothing.
+pub fn set_in<const N: usize>(sets: [u64; N], place: usize, fact: usize, present: bool) -> [u64; N]
+    ensures { result ≡ set_in sets.entry place fact present }
 {
     let mut sets = sets;
-    if action < ACTIONS {
-        sets[action] = set_fact(sets[action], fact, present);
-    }
-    sets
-}
-
-// The same in the set of one run; a run that is none changes nothing.
-pub fn set_in_run(sets: [u64; RUNS], run: usize, fact: usize, present: bool) -> [u64; RUNS]
-    ensures { result ≡ set_in sets run fact present }
-{
-    let mut sets = sets;
-    if run < RUNS {
-        sets[run] = set_fact(sets[run], fact, present);
+    if place < N {
+        sets[place] = set_fact(sets[place], fact, present);
     }
     sets
 }

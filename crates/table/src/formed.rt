@@ -11,14 +11,10 @@ use crate::{ACTIONS, ALL_STEPS, FACTS, LIMIT, RUNS, Runs, STEPS, Table, Task};
 fn are_sizes_formed(t: Task) -> bool
     ensures { result ≡ sizes_formed t }
 {
-    let facts = t.table.facts;
-    let actions = t.table.actions;
-    let limit = t.table.limit;
-    let many = t.runs.many;
-    (0 < facts)
-        & (facts <= FACTS)
-        & ((0 < actions) & (actions <= ACTIONS))
-        & ((limit <= LIMIT) & ((0 < many) & (many <= RUNS)))
+    (0 < t.table.facts)
+        & (t.table.facts <= FACTS)
+        & ((0 < t.table.actions) & (t.table.actions <= ACTIONS))
+        & ((t.table.limit <= LIMIT) & ((0 < t.runs.many) & (t.runs.many <= RUNS)))
 }
 
 // Of one run: "no set has a fact at or above F", at most 64 steps; and of one that is not used that all of it is zero.
@@ -35,14 +31,12 @@ fn is_run_formed(start: u64, goal: u64, count: usize, facts: usize, used: bool) 
 fn are_runs_formed(t: Task) -> bool
     ensures { result ≡ every_below (run_formed t) max_runs }
 {
-    let facts = t.table.facts;
-    let many = t.runs.many;
-    let starts = t.runs.starts;
-    let goals = t.runs.goals;
-    let counts = t.runs.counts;
     let mut good = true;
     for i in 0..RUNS {
-        good = good & is_run_formed(starts[i], goals[i], counts[i], facts, i < many);
+        let start = t.runs.starts[i];
+        let goal = t.runs.goals[i];
+        let count = t.runs.counts[i];
+        good &= is_run_formed(start, goal, count, t.table.facts, i < t.runs.many);
     }
     good
 }
@@ -61,7 +55,7 @@ fn are_within<'a>(
 {
     let mut every = 0;
     for a in from..ACTIONS {
-        every = every | (needs[a] | adds[a] | deletes[a]);
+        every |= needs[a] | adds[a] | deletes[a];
     }
     facts::is_within(every, n)
 }
@@ -80,8 +74,8 @@ fn are_sets_formed<'a>(
     let mut every = 0;
     let mut stray = 0;
     for a in 0..ACTIONS {
-        every = every | (needs[a] | adds[a] | deletes[a]);
-        stray = stray | facts::remove(locks[a], needs[a]);
+        every |= needs[a] | adds[a] | deletes[a];
+        stray |= facts::remove(locks[a], needs[a]);
     }
     facts::is_within(every, n) & (stray == 0)
 }
@@ -92,10 +86,8 @@ fn are_actions_formed(t: Table) -> bool
     requires { t.actions ≤ max_actions }
     ensures { result ≡ (every_below (action_formed t) max_actions && every_below (locks_formed t.needs t.locks) max_actions) }
 {
-    let facts = t.facts;
-    let actions = t.actions;
-    are_sets_formed(&t.needs, &t.adds, &t.deletes, &t.locks, facts)
-        & are_within(&t.needs, &t.adds, &t.deletes, actions, 0)
+    are_sets_formed(&t.needs, &t.adds, &t.deletes, &t.locks, t.facts)
+        & are_within(&t.needs, &t.adds, &t.deletes, t.actions, 0)
 }
 
 // Whether every step from `from` on and before `to` is below n. All are compared, as bytes, and none ends the loop early: for the
@@ -105,8 +97,8 @@ fn are_below(steps: &[u8; ALL_STEPS], from: usize, to: usize, n: u8) -> bool
     ensures { result ≡ every_from (step_below steps.now n) from to }
 {
     let mut good = true;
-    for i in from..to {
-        good = good & (steps[i] < n);
+    for &step in &steps[from..to] {
+        good &= step < n;
     }
     good
 }
@@ -120,20 +112,18 @@ fn are_steps_formed(runs: Runs, actions: usize) -> bool
     ensures { result ≡ every_below (step_formed (of_runs runs actions)) all_steps }
 {
     let actions = actions as u8;
-    let many = runs.many;
-    let counts = runs.counts;
     let mut good = true;
-    for i in 0..many {
+    for i in 0..runs.many {
         let first = STEPS * i;
-        let used = first + counts[i];
-        good = good
-            & (are_below(&runs.steps, first, used, actions)
-                & are_below(&runs.steps, used, first + STEPS, 1));
+        let used = first + runs.counts[i];
+        good &= are_below(&runs.steps, first, used, actions)
+            & are_below(&runs.steps, used, first + STEPS, 1);
     }
-    good & are_below(&runs.steps, STEPS * many, ALL_STEPS, 1)
+    good & are_below(&runs.steps, STEPS * runs.many, ALL_STEPS, 1)
 }
 
 // Whether the task is well formed, for any task whatever.
+#[tactic(auto, unfolding(crate::specs::Tasks::formed, crate::specs::Tasks::step_formed, crate::specs::Tasks::step_fits))]
 pub fn is_formed(t: Task) -> bool
     ensures { result ≡ formed t }
 {

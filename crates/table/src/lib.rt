@@ -12,8 +12,10 @@ pub mod repair;
 ghost use Rattle.std.specs.Prelude.{◌≡◌};
 ghost use Rattle.table.specs.Sizes.{max_facts, max_actions, max_steps, max_runs, all_steps, max_limit, max_row, row_places, all_rows, session_places, unused, kinds, per_fact, per_kind, last_repair};
 ghost use Rattle.table.specs.Outcomes as outcomes;
+ghost use Rattle.table.specs.Tasks.{no_runs, no_task};
 ghost use Rattle.table.specs.Repairs.{drop_delete, add_effect, drop_need};
 
+use refusals::{Refusal, Returned};
 use repair::Repair;
 
 // The sizes of document 01, by one name each; `bounds` shows that they are those of specs/Sizes.
@@ -40,6 +42,9 @@ pub const ALL_ROWS: usize = 448;
 pub const SESSION_PLACES: usize = ALL_ROWS;
 
 pub const UNUSED: u16 = 65535;
+
+// The number of an accepted call; `Why::number` gives that of a refusal.
+pub const ACCEPTED: usize = 0;
 
 // What each action needs, adds and deletes, and which of its needs are locked (02, request 6), a mask of facts each, with the sizes
 // and the limit.
@@ -71,7 +76,38 @@ pub struct Task {
     pub runs: Runs,
 }
 
-// What a call answers beside what it writes: 0 and 0, or the refusal's number and place; and how much it wrote.
+// No run: what a text without runs has, and a task of zeros.
+pub fn no_runs() -> Runs
+    ensures { result ≡ no_runs }
+{
+    Runs {
+        many: 0,
+        starts: [0; RUNS],
+        goals: [0; RUNS],
+        counts: [0; RUNS],
+        steps: [0; ALL_STEPS],
+    }
+}
+
+// A task of zeros: what a refused read returns.
+pub fn no_task() -> Task
+    ensures { result ≡ no_task }
+{
+    let table = Table {
+        facts: 0,
+        actions: 0,
+        limit: 0,
+        needs: [0; ACTIONS],
+        adds: [0; ACTIONS],
+        deletes: [0; ACTIONS],
+        locks: [0; ACTIONS],
+    };
+    let runs = no_runs();
+    Task { table, runs }
+}
+
+// What a call answers beside what it writes, in 01's numbers, as it crosses to C and is printed: 0 and 0, or the refusal's number and
+// place; and how much it wrote.
 #[derive(Clone, Copy)]
 pub struct Reply {
     pub number: usize,
@@ -79,7 +115,26 @@ pub struct Reply {
     pub length: usize,
 }
 
-// What a call that gives a task answers: 0, 0 and that task, or the refusal's number and place and the task that a refusal
+impl From<Result<usize, Refusal>> for Reply {
+    ghost from_gives = { λ told y. y ≡ outcomes.reply_of told };
+
+    fn from(told: Result<usize, Refusal>) -> Reply {
+        match told {
+            Ok(length) => Reply {
+                number: ACCEPTED,
+                place: 0,
+                length,
+            },
+            Err(refusal) => Reply {
+                number: refusal.why.number(),
+                place: refusal.place,
+                length: 0,
+            },
+        }
+    }
+}
+
+// The same of a call that gives a task: 0, 0 and that task, or the refusal's number and place and the task that a refusal
 // gives (a read: a task of zeros; applying and editing: the task given).
 #[derive(Clone, Copy)]
 pub struct TaskReply {
@@ -88,14 +143,41 @@ pub struct TaskReply {
     pub task: Task,
 }
 
-// A refusal at place 0.
-pub fn refusal(number: usize) -> Reply
-    ensures { result ≡ outcomes.refusal number }
-{
-    Reply {
-        number,
-        place: 0,
-        length: 0,
+impl From<Result<Task, Refusal>> for TaskReply {
+    ghost from_gives = { λ read y. y ≡ outcomes.read_of read };
+
+    fn from(read: Result<Task, Refusal>) -> TaskReply {
+        match read {
+            Ok(task) => TaskReply {
+                number: ACCEPTED,
+                place: 0,
+                task,
+            },
+            Err(refusal) => TaskReply {
+                number: refusal.why.number(),
+                place: refusal.place,
+                task: no_task(),
+            },
+        }
+    }
+}
+
+impl From<Result<Task, Returned>> for TaskReply {
+    ghost from_gives = { λ made y. y ≡ outcomes.made_of made };
+
+    fn from(made: Result<Task, Returned>) -> TaskReply {
+        match made {
+            Ok(task) => TaskReply {
+                number: ACCEPTED,
+                place: 0,
+                task,
+            },
+            Err(returned) => TaskReply {
+                number: returned.refusal.why.number(),
+                place: returned.refusal.place,
+                task: returned.task,
+            },
+        }
     }
 }
 

@@ -12,25 +12,18 @@ fn is_repairable(t: Table, fact: usize, kind: usize, action: usize) -> bool
     requires { action < max_actions }
     ensures { result ≡ repairable (cells_of t) fact kind action }
 {
-    if kind == Repair::DROP_DELETE {
-        facts::contains(t.deletes[action], fact)
-    } else if kind == Repair::ADD_EFFECT {
-        !facts::contains(t.adds[action], fact)
-    } else {
-        facts::contains(facts::remove(t.needs[action], t.locks[action]), fact)
+    match kind {
+        Repair::DROP_DELETE => facts::contains(t.deletes[action], fact),
+        Repair::ADD_EFFECT => !facts::contains(t.adds[action], fact),
+        _ => facts::contains(facts::remove(t.needs[action], t.locks[action]), fact),
     }
 }
 
 // The repair's cell is as it must be, and both the fact and the action are in the task.
+#[tactic(auto, unfolding(crate::specs::Repairs::permitted, crate::specs::Repairs::permits, crate::specs::Tasks::cells_of))]
 pub fn is_permitted(t: Table, n: usize) -> bool
     ensures { result ≡ permitted (cells_of t) n }
 {
-    let repair = Repair::of(n);
-    let fact = repair.fact;
-    let kind = repair.kind;
-    let action = repair.action;
-    let facts = t.facts;
-    let actions = t.actions;
-    let repairable = is_repairable(t, fact, kind, action);
-    (fact < facts) & (action < actions) & repairable
+    let Repair { fact, kind, action } = Repair::of(n);
+    (fact < t.facts) & (action < t.actions) & is_repairable(t, fact, kind, action)
 }

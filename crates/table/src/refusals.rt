@@ -1,68 +1,97 @@
-// The refusal numbers of documents 01 and 02, by one name each; `numbers` shows that they are those of specs/Refusals.
-ghost use Rattle.std.specs.Prelude.{◌∷◌, [], ◌≡◌};
-ghost use Rattle.table.specs.Refusals.{accepted, no_end, unknown_kind, sizes_misplaced, size_outside, number_outside, not_ascending, too_many_steps, bytes_after_end, no_list_works, over_the_limit, room_too_short, not_well_formed, not_a_session, not_there, list_not_permitted, too_many_runs, lock_without_need};
+// Why a call is refused, and where (documents 01 and 02, "Refusal numbers"); `number` shows that the numbers are those of specs/Refusals.
+ghost use Rattle.std.specs.Prelude.{◌≡◌};
+ghost use Rattle.table.specs.Refusals.{number_of};
 
-pub const ACCEPTED: usize = 0;
+use crate::Task;
 
-pub const NO_END: usize = 1;
+#[derive(Clone, Copy, PartialEq, Eq, Debug)]
+pub enum Why {
+    NoEnd,
+    UnknownKind,
+    SizesMisplaced,
+    SizeOutside,
+    NumberOutside,
+    NotAscending,
+    TooManySteps,
+    BytesAfterEnd,
+    NoListWorks,
+    OverTheLimit,
+    RoomTooShort,
+    NotWellFormed,
+    NotASession,
+    NotThere,
+    ListNotPermitted,
+    TooManyRuns,
+    NotTheLayout,
+    LockWithoutNeed,
+}
 
-pub const UNKNOWN_KIND: usize = 2;
+impl Why {
+    pub fn number(self) -> usize
+        ensures { result ≡ number_of self }
+    {
+        match self {
+            Why::NoEnd => 1,
+            Why::UnknownKind => 2,
+            Why::SizesMisplaced => 3,
+            Why::SizeOutside => 4,
+            Why::NumberOutside => 5,
+            Why::NotAscending => 6,
+            Why::TooManySteps => 7,
+            Why::BytesAfterEnd => 8,
+            Why::NoListWorks => 9,
+            Why::OverTheLimit => 10,
+            Why::RoomTooShort => 11,
+            Why::NotWellFormed => 12,
+            Why::NotASession => 13,
+            Why::NotThere => 14,
+            Why::ListNotPermitted => 15,
+            Why::TooManyRuns => 16,
+            Why::NotTheLayout => 17,
+            Why::LockWithoutNeed => 18,
+        }
+    }
 
-pub const SIZES_MISPLACED: usize = 3;
+    // A refusal at a place of a file, of a list or of a text.
+    pub fn at(self, place: usize) -> Refusal
+        ensures { result ≡ record { why = self; place = place } }
+    {
+        Refusal { why: self, place }
+    }
+}
 
-pub const SIZE_OUTSIDE: usize = 4;
+// Why, and at which place.
+#[derive(Clone, Copy, PartialEq, Eq, Debug)]
+pub struct Refusal {
+    pub why: Why,
+    pub place: usize,
+}
 
-pub const NUMBER_OUTSIDE: usize = 5;
+impl Refusal {
+    // The same of a call that returns the task it was given.
+    pub fn returning(self, task: Task) -> Returned
+        ensures { result ≡ record { refusal = self; task = task } }
+    {
+        Returned {
+            refusal: self,
+            task,
+        }
+    }
+}
 
-pub const NOT_ASCENDING: usize = 6;
+// Where 01 names no place it is 0.
+impl From<Why> for Refusal {
+    ghost from_gives = { λ why r. r ≡ record { why = why; place = 0 } };
 
-pub const TOO_MANY_STEPS: usize = 7;
+    fn from(why: Why) -> Refusal {
+        why.at(0)
+    }
+}
 
-pub const BYTES_AFTER_END: usize = 8;
-
-pub const NO_LIST_WORKS: usize = 9;
-
-pub const OVER_THE_LIMIT: usize = 10;
-
-pub const ROOM_TOO_SHORT: usize = 11;
-
-pub const NOT_WELL_FORMED: usize = 12;
-
-pub const NOT_A_SESSION: usize = 13;
-
-pub const NOT_THERE: usize = 14;
-
-pub const LIST_NOT_PERMITTED: usize = 15;
-
-pub const TOO_MANY_RUNS: usize = 16;
-
-pub const LOCK_WITHOUT_NEED: usize = 18;
-
-// How many numbers there are, success among them; 17 is that of the PDDL texts, and stands with them.
-pub const NUMBERS: usize = 18;
-
-// The code's numbers, in order, are the definitions'.
-pub fn numbers() -> [usize; NUMBERS]
-    ensures { result ≡ (accepted ∷ no_end ∷ unknown_kind ∷ sizes_misplaced ∷ size_outside ∷ number_outside ∷ not_ascending ∷ too_many_steps ∷ bytes_after_end ∷ no_list_works ∷ over_the_limit ∷ room_too_short ∷ not_well_formed ∷ not_a_session ∷ not_there ∷ list_not_permitted ∷ too_many_runs ∷ lock_without_need ∷ []) }
-{
-    [
-        ACCEPTED,
-        NO_END,
-        UNKNOWN_KIND,
-        SIZES_MISPLACED,
-        SIZE_OUTSIDE,
-        NUMBER_OUTSIDE,
-        NOT_ASCENDING,
-        TOO_MANY_STEPS,
-        BYTES_AFTER_END,
-        NO_LIST_WORKS,
-        OVER_THE_LIMIT,
-        ROOM_TOO_SHORT,
-        NOT_WELL_FORMED,
-        NOT_A_SESSION,
-        NOT_THERE,
-        LIST_NOT_PERMITTED,
-        TOO_MANY_RUNS,
-        LOCK_WITHOUT_NEED,
-    ]
+// "A refused edit or a refused applying of a list returns the task it was given", and so does a refused run more.
+// (The task first, where it stands in an accepted answer too: else the compiler copies it four bytes at a time.)
+#[derive(Clone, Copy)]
+pub struct Returned {
+    pub task: Task,
+    pub refusal: Refusal,
 }

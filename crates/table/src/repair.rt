@@ -35,12 +35,11 @@ impl Repair {
     }
 
     // A repair with a part outside has the number that no task permits.
+    #[tactic(auto, unfolding(crate::specs::Repairs::numbered))]
     pub fn number(self) -> usize
         ensures { result ≡ numbered self.fact self.kind self.action }
     {
-        let fact = self.fact;
-        let kind = self.kind;
-        let action = self.action;
+        let Repair { fact, kind, action } = self;
         if (fact < FACTS) & (kind < Repair::KINDS) & (action < ACTIONS) {
             Repair::PER_FACT * fact + Repair::PER_KIND * kind + action
         } else {

@@ -1,66 +1,69 @@
 -- What the loop of the reader keeps. Assumes nothing.
-use mathlib.Core.Bool.{Bool, true, false, cond, ◌&&◌}
+use mathlib.Core.Bool.{true, false, ◌&&◌}
 use mathlib.Core.List.{List}
-use mathlib.Core.Path.{◌≡◌, sym, ◌∙◌}
-use Prim.Native.Nat.{ℕ, ◌+◌, ◌-◌, ◌*◌, ◌<◌}
-use borrow.Author.Tests.{eq-eqb, ne_eqb, leb-false}
+use mathlib.Core.Path.{◌≡◌, refl, sym, ap, ◌∙◌}
+use Prim.Native.Nat.{ℕ, ◌≤◌}
+use native.Mathlib.Omega.{arith}
 use lib.Dec.{eqb, leb}
-use lib.ListN.{get_or, set}
-use Rattle.table.specs.Sizes.{max_steps}
-use Rattle.table.specs.Setting.{set_in}
-use Rattle.table.specs.Tasks.{count_of, Shaped}
-use Rattle.taskformat.specs.Format.{sizes_kind, start_kind, goal_kind, need_kind, add_kind, delete_kind, lock_kind, step_kind}
-use Rattle.taskformat.specs.Reading.{Seen, last_run, kind_at, byte_at, body_at, table_after, runs_after, seen_after}
-use Rattle.taskformat.proofs.Clear.{Clear}
-use Rattle.taskformat.proofs.OneMore.{task_after, shaped_after}
-use Rattle.records.specs.Records.{seen_with, seen_of}
-use Rattle.records.specs.declared.known.Known.{Known}
-use Rattle.taskfile.specs.Numbers.{known_of, many_after}
+use borrow.Author.Tests.{eqb-true, eqb-false, leb-false}
+use denote.Enum.Bare.{sameb}
+use Rattle.std.specs.Prelude.{Err}
+use Rattle.table.specs.Refusals.{Refusal, accepted, number_of}
+use Rattle.table.specs.Outcomes.{read_of}
+use Rattle.table.specs.Sizes.{max_runs}
+use Rattle.table.specs.declared.refusals.Refusal as code
+use Rattle.table.proofs.WhyLaws.{number_some}
+use Rattle.table.proofs.FlagLaws.{cond_by}
+use Rattle.table.specs.declared.Task.{Task}
+use Rattle.taskformat.specs.Format.{sizes_kind, end_kind, run_kind, is_cell_kind, body_length}
+use Rattle.taskformat.specs.Reading.{Seen, Reads, faulty, refused_read, seen_after, runs_after, body_at, fault_at}
+use Rattle.records.specs.contracts.kinds.Kind.{the_type}
+use Rattle.records.specs.declared.kinds.Kind.{Kind}
+use Rattle.records.specs.declared.kinds.Kind.TheVariants.{Sizes, Start, Goal, Need, Add, Delete, Step, End, Run, Lock}
+use Rattle.records.specs.Kinds.{kind_number}
+use Rattle.records.specs.declared.parts.Parts.{Parts}
+use Rattle.records.specs.Records.{Says}
+use Rattle.taskfile.specs.Numbers.{task_after, seen_with}
 
--- What is seen after a record: the numbers, and of the arrays those that the record's kind names.
-pub one_more : (s : List ℕ) (at : ℕ) (k : Known) (n a d l b g c t : List ℕ) {kind x y run : ℕ} {k' : Known} {n' a' d' l' b' g' c' t' : List ℕ}
-    → get_or c (k.runs - 1) 0 ≡ k.count → kind ≡ kind_at s at → x ≡ byte_at s at 0 → y ≡ byte_at s at 1 → run ≡ k.runs - 1
-    → k' ≡ known_of (seen_after s at (seen_of k)) c'
-    → n' ≡ cond (eqb kind need_kind) (set_in n x y true) n → a' ≡ cond (eqb kind add_kind) (set_in a x y true) a
-    → d' ≡ cond (eqb kind delete_kind) (set_in d x y true) d → l' ≡ cond (eqb kind lock_kind) (set_in l x y true) l
-    → b' ≡ cond (eqb kind start_kind) (set_in b run x true) b → g' ≡ cond (eqb kind goal_kind) (set_in g run x true) g
-    → c' ≡ cond (eqb kind step_kind) (set c run (k.count + 1)) c
-    → t' ≡ cond (eqb kind step_kind) (set t (max_steps * run + k.count) x) t
-    → seen_with k' n' a' d' l' b' g' c' t' ≡ seen_after s at (seen_with k n a d l b g c t)
-unfolding seen_after table_after runs_after
-one_more s at k n a d l b g c t counted is first second last numbers needs adds deletes locks starts goals counts steps =
-    rw (numbers, needs, adds, deletes, locks, starts, goals, counts, steps, is, first, second, last, counted)
+-- A refused record refuses the file, with the same number and place.
+pub read_refused : {s : List ℕ} {at : ℕ} {seen : Seen} (e : code.Refusal) → record { number = number_of e.why; place = e.place } ≡ fault_at s at seen
+    → Reads s (read_of (Err e)) at seen
+read_refused {s} {at} {seen} e told =
+    let some : number_of e.why ≡ accepted → ⊥ = number_some e.why in
+    let is : number_of e.why ≡ (fault_at s at seen).number = ap (λ (f : Refusal). f.number) told in
+    faulty (omega (arith, is)) (ap (λ (f : Refusal). refused_read f.number f.place) told)
 
-pub shaped_next : (s : List ℕ) (at : ℕ) (seen : Seen) → Shaped seen.task → Shaped (seen_after s at seen).task
-unfolding seen_after task_after
-shaped_next s at seen = shaped_after seen.task (kind_at s at) (byte_at s at 0) (byte_at s at 1) (byte_at s at 2)
+-- What is seen after a record, by the file's bytes and by its parts.
+pub seen_next : (s : List ℕ) (at : ℕ) (seen : Seen) (p : Parts) → Says s at p → seen_with seen p ≡ seen_after s at seen
+unfolding seen_after body_at
+seen_next s at seen p said = rw (said.kind, said.first, said.second, said.third)
 
--- The numbers after a record, of the sizes and of any other kind.
-module _ (s : List ℕ) (at : ℕ) (k : Known) (counts : List ℕ) {kind body many count : ℕ} (is : kind ≡ kind_at s at) (last : body ≡ body_at s at)
-    (runs : many ≡ many_after kind k.runs) (counted : count ≡ get_or counts (many - 1) 0) where
-  abbrev After : ℕ → ℕ → ℕ → Type 0
-  After f a l = record { facts = f; actions = a; limit = l; runs = many; count = count; kind = kind; body = body } ≡
-      known_of (seen_after s at (seen_of k)) counts
+-- The end by its kind, in the code's words and the definitions'.
+same_end : (k : Kind) → sameb the_type k End ≡ eqb (kind_number k) end_kind
+same_end Sizes = refl
+same_end Start = refl
+same_end Goal = refl
+same_end Need = refl
+same_end Add = refl
+same_end Delete = refl
+same_end Step = refl
+same_end End = refl
+same_end Run = refl
+same_end Lock = refl
 
-  pub after_sizes : {x y z : ℕ} → x ≡ byte_at s at 0 → y ≡ byte_at s at 1 → z ≡ byte_at s at 2 → kind ≡ sizes_kind → After x y z
-  unfolding seen_after table_after runs_after
-  after_sizes first second third here = let this = sym is ∙ here in rw (counted, runs, first, second, third, last, is, this)
+pub is_end : (k : Kind) {n : ℕ} → true ≡ sameb the_type k End → kind_number k ≡ n → n ≡ end_kind
+is_end k e is = sym is ∙ eqb-true (kind_number k) end_kind (sym (e ∙ same_end k))
 
-  pub after_other : (kind ≡ sizes_kind → ⊥) → After k.facts k.actions k.limit
-  unfolding seen_after table_after runs_after
-  after_other other = rw (counted, runs, last, is, ne_eqb (kind_at s at) sizes_kind (λ e. other (is ∙ e)))
+pub not_end : (k : Kind) {n : ℕ} → false ≡ sameb the_type k End → kind_number k ≡ n → n ≡ end_kind → ⊥
+not_end k d is e = eqb-false (kind_number k) end_kind (sym (d ∙ same_end k)) (is ∙ e)
 
--- A store where a test holds: it is left out, or it is made.
-pub left_out : (b : Bool) (l m : List ℕ) → b ≡ false → m ≡ cond b l m
-left_out b l m e = rw e
+pub end_length : body_length end_kind ≡ 0
+unfolding body_length is_cell_kind
+end_length = refl
 
-pub put_in : (b : Bool) (l m : List ℕ) → b ≡ true → l ≡ cond b l m
-put_in b l m e = rw e
-
--- A good record of a kind that may come so often comes while there is room for it.
-pub has_room : (kind this most n : ℕ) → (eqb kind this && leb most n) ≡ false → kind ≡ this → n < most
-has_room kind this most n clear here = leb-false most n (rw (eq-eqb kind this here) at clear)
-
-pub step_has_room : {s : List ℕ} {at : ℕ} {seen : Seen} {kind : ℕ} (k : Known) → kind ≡ kind_at s at → count_of seen.task.runs (last_run seen.task.runs) ≡ k.count
-    → Clear s at seen → (eqb kind step_kind && leb max_steps k.count) ≡ false
-step_has_room k is counted c = rw (is, ← counted) c.room
+-- With room for it a further run is no more than there may be.
+pub many_next : (t : Task) (k x y z : ℕ) → t.runs.many ≤ max_runs → (eqb k run_kind && leb max_runs t.runs.many) ≡ false → (task_after t k x y z).runs.many ≤ max_runs
+unfolding runs_after
+many_next t k x y z low room =
+    cond_by (λ (n : ℕ). n ≤ max_runs) (eqb k sizes_kind) (λ _. omega arith)
+    (λ _. cond_by (λ (n : ℕ). n ≤ max_runs) (eqb k run_kind) (λ e. omega (arith, leb-false max_runs t.runs.many (rw e at room))) (λ _. low))

@@ -1,21 +1,17 @@
--- The words of the inner functions: what the numbers are that the pass over the records keeps.
-use Rattle.std.specs.Prelude.{cond, List, ℕ, ◌+◌, eqb, get_or}
-use Rattle.taskformat.specs.Format.{sizes_kind, run_kind}
-use Rattle.taskformat.specs.Reading.{last_run, Seen}
-use Rattle.records.specs.declared.known.Known.{Known}
+-- What is seen after one record more, by its parts (taskformat/specs/Reading says it by the file's bytes).
+use Rattle.std.specs.Prelude.{ℕ}
+use Rattle.table.specs.declared.Task.{Task}
+use Rattle.taskformat.specs.Reading.{Seen, table_after, runs_after}
+use Rattle.records.specs.declared.parts.Parts.{Parts}
+use Rattle.records.specs.Kinds.{kind_number}
+use Rattle.records.specs.Records.{number_of_body}
 
--- What is known of what has been seen, where these are the counts: the way back from `seen_of` (records).
-abbrev pub known_of : Seen → List ℕ → Known
-known_of seen counts = record {
-  facts = seen.task.table.facts;
-  actions = seen.task.table.actions;
-  limit = seen.task.table.limit;
-  runs = seen.task.runs.many;
-  count = get_or counts (last_run seen.task.runs) 0;
-  kind = seen.kind;
-  body = seen.body;
+abbrev pub task_after : Task → (kind x y z : ℕ) → Task
+task_after t kind x y z = record { table = table_after t.table kind x y z; runs = runs_after t.runs kind x }
+
+abbrev pub seen_with : Seen → Parts → Seen
+seen_with seen p = record {
+  task = task_after seen.task (kind_number p.kind) p.first p.second p.third;
+  kind = kind_number p.kind;
+  body = number_of_body (kind_number p.kind) p.first p.second;
 }
-
--- How many runs are open after a record of this kind, where n were before.
-abbrev pub many_after : ℕ → ℕ → ℕ
-many_after kind n = cond (eqb kind sizes_kind) 1 (cond (eqb kind run_kind) (n + 1) n)

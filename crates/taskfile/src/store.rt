@@ -1,76 +1,80 @@
-// What one good record stores in the arrays (document 01, "The task file"; 02, requests 1 and 6): each in its own place, and every other
-// place is left alone.
-ghost use Rattle.std.specs.Prelude.{cond, true, false, ◌&&◌, ◌≡◌, ◌+◌, ◌*◌, eqb, leb, length, set};
+// What is seen after one good record more (document 01, "The task file"; 02, requests 1 and 6): what it says in its own place, and every
+// other place is left alone.
+ghost use Rattle.std.specs.Prelude.{true, false, ◌&&◌, ◌≡◌, ◌≤◌, ◌<◌, eqb, leb};
 ghost use Rattle.table.specs.Setting.{set_in};
-ghost use Rattle.table.specs.Sizes.{max_runs, max_steps, all_steps};
-ghost use Rattle.taskformat.specs.Format.{need_kind, add_kind, delete_kind, lock_kind, start_kind, goal_kind, step_kind};
+ghost use Rattle.table.specs.Sizes.{max_runs, max_steps};
+ghost use Rattle.table.specs.Tasks.{count_of};
+ghost use Rattle.taskformat.specs.Format.{step_kind, run_kind};
+ghost use Rattle.taskformat.specs.Reading.{last_run, runs_after};
+ghost use Rattle.records.specs.Kinds.{kind_number};
+ghost use Rattle.records.specs.Records.{seen_of};
+ghost use Rattle.taskfile.specs.Numbers.{task_after, seen_with};
 
-use records::kinds;
-use table::{RUNS, STEPS};
+use records::kinds::Kind;
+use records::parts::Parts;
+use records::seen::{Seen, last_run};
+use table::{Runs, STEPS, Task};
 
-// Where the record is of these sets, one fact more in the set at a place; past the sets nothing changes.
-fn put_fact(sets: &mut [u64], here: bool, place: usize, fact: usize)
-    ensures { sets.new ≡ cond here (set_in sets.old place fact true) sets.old }
+// One fact more in the set at a place; past the sets nothing changes.
+fn put_fact(sets: &mut [u64], place: usize, fact: usize)
+    ensures { sets.new ≡ set_in sets.old place fact true }
 {
-    if !here {
-        return;
+    if place < sets.len() {
+        sets[place] = facts::with_fact(sets[place], fact);
     }
-    if sets.len() <= place {
-        return;
-    }
-    sets[place] = facts::with_fact(sets[place], fact);
 }
 
-// A need, an add, a delete or a lock: a fact of an action.
-pub(crate) fn put_cell(
-    needs: &mut [u64],
-    adds: &mut [u64],
-    deletes: &mut [u64],
-    locks: &mut [u64],
-    kind: usize,
-    action: usize,
-    fact: usize,
-)
-    ensures needs_after { needs.new ≡ cond (eqb kind need_kind) (set_in needs.old action fact true) needs.old }
-    ensures adds_after { adds.new ≡ cond (eqb kind add_kind) (set_in adds.old action fact true) adds.old }
-    ensures deletes_after { deletes.new ≡ cond (eqb kind delete_kind) (set_in deletes.old action fact true) deletes.old }
-    ensures locks_after { locks.new ≡ cond (eqb kind lock_kind) (set_in locks.old action fact true) locks.old }
+// A step of a run that has room for it.
+#[tactic(auto, unfolding(taskformat::specs::Reading::runs_after))]
+fn put_step(runs: &mut Runs, run: usize, action: u8)
+    requires run_there { run < max_runs }
+    requires room { count_of runs.old run < max_steps }
+    requires last { run ≡ last_run runs.old }
+    ensures { runs.new ≡ runs_after runs.old step_kind action }
 {
-    put_fact(needs, kind == kinds::NEED, action, fact);
-    put_fact(adds, kind == kinds::ADD, action, fact);
-    put_fact(deletes, kind == kinds::DELETE, action, fact);
-    put_fact(locks, kind == kinds::LOCK, action, fact);
+    let count = runs.counts[run];
+    runs.steps[STEPS * run + count] = action;
+    runs.counts[run] = count + 1;
 }
 
-// A start or a goal fact of a run.
-pub(crate) fn put_set(starts: &mut [u64], goals: &mut [u64], kind: usize, run: usize, fact: usize)
-    ensures starts_after { starts.new ≡ cond (eqb kind start_kind) (set_in starts.old run fact true) starts.old }
-    ensures goals_after { goals.new ≡ cond (eqb kind goal_kind) (set_in goals.old run fact true) goals.old }
+// What the task is after one record more.
+#[tactic(auto, unfolding(taskformat::specs::Reading::table_after, taskformat::specs::Reading::runs_after))]
+fn put(task: &mut Task, parts: Parts)
+    requires runs { task.old.runs.many ≤ max_runs }
+    requires further { (eqb (kind_number parts.kind) run_kind && leb max_runs task.old.runs.many) ≡ false }
+    requires step { (eqb (kind_number parts.kind) step_kind && leb max_steps (count_of task.old.runs (last_run task.old.runs))) ≡ false }
+    ensures { task.new ≡ task_after task.old (kind_number parts.kind) parts.first parts.second parts.third }
 {
-    put_fact(starts, kind == kinds::START, run, fact);
-    put_fact(goals, kind == kinds::GOAL, run, fact);
+    let run = last_run(&task.runs);
+    let x = usize::from(parts.first);
+    let y = usize::from(parts.second);
+    match parts.kind {
+        Kind::Sizes => {
+            task.table.facts = x;
+            task.table.actions = y;
+            task.table.limit = usize::from(parts.third);
+            task.runs.many = 1;
+        }
+        Kind::Start => put_fact(&mut task.runs.starts, run, x),
+        Kind::Goal => put_fact(&mut task.runs.goals, run, x),
+        Kind::Need => put_fact(&mut task.table.needs, x, y),
+        Kind::Add => put_fact(&mut task.table.adds, x, y),
+        Kind::Delete => put_fact(&mut task.table.deletes, x, y),
+        Kind::Lock => put_fact(&mut task.table.locks, x, y),
+        Kind::Step => put_step(&mut task.runs, run, parts.first),
+        Kind::Run => task.runs.many += 1,
+        Kind::End => {}
+    }
 }
 
-// A step of a run that has had so many, and how many it then has; of a run that there is no room for nothing is kept.
-pub(crate) fn put_step(
-    counts: &mut [usize],
-    steps: &mut [u8],
-    kind: usize,
-    run: usize,
-    count: usize,
-    action: u8,
-)
-    requires counts_len { (length counts.old ≡ max_runs) × (length steps.old ≡ all_steps) }
-    requires count_value { (eqb kind step_kind && leb max_steps count) ≡ false }
-    ensures counts_after { counts.new ≡ cond (eqb kind step_kind) (set counts.old run (count + 1)) counts.old }
-    ensures steps_after { steps.new ≡ cond (eqb kind step_kind) (set steps.old (max_steps * run + count) action) steps.old }
+// What is seen after it.
+pub(crate) fn keep(seen: &mut Seen, parts: Parts)
+    requires runs { seen.old.task.runs.many ≤ max_runs }
+    requires further { (eqb (kind_number parts.kind) run_kind && leb max_runs seen.old.task.runs.many) ≡ false }
+    requires step { (eqb (kind_number parts.kind) step_kind && leb max_steps (count_of seen.old.task.runs (last_run seen.old.task.runs))) ≡ false }
+    ensures { seen_of seen.new ≡ seen_with (seen_of seen.old) parts }
 {
-    if kind != kinds::STEP {
-        return;
-    }
-    if RUNS <= run {
-        return;
-    }
-    counts[run] = count + 1;
-    steps[STEPS * run + count] = action;
+    put(&mut seen.task, parts);
+    seen.kind = Some(parts.kind);
+    seen.body = parts.number();
 }

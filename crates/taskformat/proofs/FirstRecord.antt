@@ -11,12 +11,12 @@ use Rattle.facts.specs.Sets.{has}
 use Rattle.facts.proofs.Laws.{has_empty}
 use Rattle.table.specs.Sizes.{max_facts, max_actions, max_runs, max_steps, all_steps, max_limit}
 use Rattle.table.specs.Lists.{piece}
-use Rattle.table.specs.Tasks.{start_of, goal_of, count_of, cells_of, mask_of, WellFormed}
+use Rattle.table.specs.Tasks.{start_of, goal_of, count_of, cells_of, mask_of, WellFormed, no_task}
 use Rattle.table.proofs.FlagLaws.{both}
 use Rattle.table.proofs.Formation.{by_kind_all}
 use Rattle.table.specs.declared.Task.{Task}
 use Rattle.taskformat.specs.Format.{sizes_kind, start_kind, need_kind, add_kind, delete_kind}
-use Rattle.taskformat.specs.Reading.{byte_room, Seen, no_task, nothing_seen, kind_at, byte_at, body_at, misplaced, sizes_wrong, table_after, runs_after, seen_after}
+use Rattle.taskformat.specs.Reading.{byte_room, Seen, nothing_seen, kind_at, byte_at, body_at, misplaced, sizes_wrong, table_after, runs_after, seen_after}
 use Rattle.taskformat.proofs.Ranks.{slots, rank, run_at_rank, kind_at_rank, piece_at, cell_set, fact_piece, cell_piece, step_piece, run_piece, sizes_once, step_here, run_here, no_step, no_run}
 use Rattle.taskformat.proofs.Families.{Family, of_none, of_sizes, of_run, of_fact, of_cell, of_step, family}
 use Rattle.taskformat.proofs.OneMore.{task_after}

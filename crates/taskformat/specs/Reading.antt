@@ -1,32 +1,17 @@
 -- What reading a file gives, for every byte string: document 01, "The task file" and "Refusal numbers".
 -- "Order in a file: the first faulty record; within it 1 (no kind byte), 2, 3, 1 (short body), 4, 5, 6, 7; 8 after a good end."
 -- 02, request 1: 16 "after 6 and before 7"; 02, request 2: which byte is wrong; 02, request 6: 18 "after 6 and 16".
-use Rattle.std.specs.Prelude.{Bool, true, cond, not, ◌||◌, ◌&&◌, List, [], ◌∷◌, ◌⊎◌, ◌≡◌, ℕ, ◌+◌, ◌-◌, ◌*◌, ◌<◌, eqb, leb, ltb, length, get_or, set, replicate}
+use Rattle.std.specs.Prelude.{Bool, true, cond, not, ◌||◌, ◌&&◌, List, [], ◌∷◌, ◌⊎◌, ◌≡◌, ℕ, ◌+◌, ◌-◌, ◌*◌, ◌<◌, eqb, leb, ltb, length, get_or, set}
 use Rattle.facts.specs.Sets.{has}
 use Rattle.table.specs.Refusals.{Check, Refusal, refuse_at, first_of, accepted, no_end, unknown_kind, sizes_misplaced, size_outside, number_outside, not_ascending, too_many_runs, lock_without_need, too_many_steps, bytes_after_end}
 use Rattle.table.specs.Setting.{set_in}
-use Rattle.table.specs.Sizes.{max_facts, max_actions, max_runs, max_steps, all_steps, max_limit}
-use Rattle.table.specs.Tasks.{count_of}
+use Rattle.table.specs.Sizes.{max_facts, max_actions, max_runs, max_steps, max_limit}
+use Rattle.table.specs.Tasks.{count_of, no_task}
 use Rattle.table.specs.declared.Task.{Task}
 use Rattle.table.specs.declared.Table.{Table}
 use Rattle.table.specs.declared.Runs.{Runs}
 use Rattle.table.specs.declared.TaskReply.{TaskReply}
 use Rattle.taskformat.specs.Format.{sizes_kind, start_kind, goal_kind, need_kind, add_kind, delete_kind, step_kind, end_kind, run_kind, lock_kind, is_kind, is_cell_kind, is_fact_kind, body_length, no_kind, position_of}
-
--- A task of zeros: what a refused read returns.
-abbrev pub no_task : Task
-no_task = record {
-  table = record {
-    facts = 0;
-    actions = 0;
-    limit = 0;
-    needs = replicate max_actions 0;
-    adds = replicate max_actions 0;
-    deletes = replicate max_actions 0;
-    locks = replicate max_actions 0;
-  };
-  runs = record { many = 0; starts = replicate max_runs 0; goals = replicate max_runs 0; counts = replicate max_runs 0; steps = replicate all_steps 0 };
-}
 
 -- The run that was opened last: the first by the sizes, each further one by its kind 9.
 abbrev pub last_run : Runs → ℕ

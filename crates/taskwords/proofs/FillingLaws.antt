@@ -28,11 +28,6 @@ module _ (f : ℕ → ℕ) {n : ℕ} {l : List ℕ} {i : ℕ} (g : Filling f n l
         (get_or-set_same l i w 0 (omega (arith, g.whole)) ∙ e);
   }
 
-  pub filling_all : (want : List ℕ) → n ≤ i → length want ≡ n → ((k : ℕ) → k < n → get_or want k 0 ≡ f k) → l ≡ want
-  filling_all want h e same =
-      ext_get_or 0 l want (omega (arith, g.whole))
-      (λ k below. let inside : k < n = omega (arith, g.whole) in rw (same k inside) (g.so_far k (omega arith)))
-
 -- ---- an array of zeros, of which only the first places are filled: from there on f says 0
 
 pub record Begun (f : ℕ → ℕ) (n : ℕ) (l : List ℕ) (i : ℕ) : Type 0 where

@@ -2,10 +2,10 @@
 use mathlib.Core.List.{List, map}
 use mathlib.Core.Bool.{true}
 use mathlib.Core.Path.{◌≡◌, ◌∙◌, sym, ap, subst}
-use Prim.Native.Nat.{ℕ, ◌+◌, ◌^◌, ◌≤◌, ◌<◌}
+use Prim.Native.Nat.{ℕ, ◌+◌, ◌-◌, ◌^◌, ◌≤◌, ◌<◌}
 use native.Mathlib.Omega.{arith}
 use lib.ListN.{length, get_or, take, drop, length-take, length-drop, length-map, get_or-map}
-use lib.Seq.{get_or-take, get_or-drop}
+use lib.Seq.{get_or-take, get_or-drop, take_all}
 use borrow.Author.Tests.{ltb-true}
 use Rattle.facts.specs.Sets.{joined, within}
 use Rattle.facts.proofs.Laws.{within_joined}
@@ -33,9 +33,6 @@ unfolding within
 within_none m e = omega (arith, ltb-true m (2 ^ 0) e)
 
 module _ (ws : List ℕ) (from : ℕ) where
-  pub zeros_none : Zeros ws from from
-  zeros_none i low l = absurd (omega arith)
-
   pub zeros_more : (i every next : ℕ) → next ≡ joined every (get_or ws i 0) → (within every 0 ≡ true → Zeros ws from i)
       → within next 0 ≡ true → Zeros ws from (i + 1)
   zeros_more i every next e so_far h =
@@ -43,3 +40,12 @@ module _ (ws : List ℕ) (from : ℕ) where
       λ k low l. by_order k i (so_far two.0 k low) (λ past.
       let same : i ≡ k = omega arith in
       subst (λ (j : ℕ). get_or ws j 0 ≡ 0) same (within_none (get_or ws i 0) two.1))
+
+-- Of the words from a place on, as they are lent.
+pub zeros_from : (ws : List ℕ) (at : ℕ) → Zeros (take (length ws - at) (drop at ws)) 0 (length (take (length ws - at) (drop at ws)))
+    → Zeros ws at (length ws)
+zeros_from ws at z i low l =
+    let all : take (length ws - at) (drop at ws) ≡ drop at ws = take_all (length ws - at) (drop at ws) (omega (arith, length-drop at ws)) in
+    let rest : Zeros (drop at ws) 0 (length (drop at ws)) = subst (λ (t : List ℕ). Zeros t 0 (length t)) all z in
+    let same : at + (i - at) ≡ i = omega arith in
+    subst (λ (k : ℕ). get_or ws k 0 ≡ 0) same (sym (get_or-drop at ws (i - at) 0) ∙ rest (i - at) (omega arith) (omega (arith, length-drop at ws)))

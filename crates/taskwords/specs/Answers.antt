@@ -4,7 +4,7 @@ use Rattle.runcheck.specs.declared.Checked.{Checked}
 use Rattle.table.specs.Sizes.{all_steps}
 use Rattle.table.specs.declared.Reply.{Reply}
 use Rattle.table.specs.declared.Task.{Task}
-use Rattle.records.specs.declared.record.Record.{Record}
+use Rattle.records.specs.declared.record.RecordReply.{RecordReply}
 use Rattle.room.specs.Placing.{placed}
 use Rattle.taskwords.specs.Words.{task_words, table_out, runs_out}
 
@@ -44,7 +44,7 @@ problem_words number place start goal = number ∷ place ∷ start ∷ goal ∷ 
 abbrev pub checked_words : Checked → List ℕ
 checked_words y = y.number ∷ y.place ∷ y.total ∷ y.step ∷ y.fact ∷ []
 
-abbrev pub record_words : Record → List ℕ
+abbrev pub record_words : RecordReply → List ℕ
 record_words y = y.number ∷ y.place ∷ y.kind ∷ y.start ∷ y.length ∷ y.next ∷ []
 
 abbrev pub task_answer : ℕ → ℕ → Task → List ℕ

@@ -6,7 +6,7 @@ use Rattle.table.specs.Sizes.{max_actions, max_runs, all_steps}
 use Rattle.table.specs.declared.Runs.{Runs}
 use Rattle.table.specs.declared.Table.{Table}
 use Rattle.table.specs.declared.Task.{Task}
-use Rattle.taskformat.specs.Reading.{no_task}
+use Rattle.table.specs.Tasks.{no_task}
 
 -- Where the masks of the actions stand, behind facts, actions and limit.
 abbrev pub needs_at : ℕ

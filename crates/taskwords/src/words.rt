@@ -4,8 +4,7 @@ ghost use Rattle.std.specs.Prelude.{true, map, ◌≡◌, ◌+◌, ◌≤◌, le
 ghost use Rattle.table.specs.Sizes.{max_actions, max_runs, all_steps};
 ghost use Rattle.taskwords.specs.Words.{Zeros, masks_at, of_runs_at, counts_at, step_in, steps_at, task_in, task_words};
 
-use table::{ACTIONS, ALL_STEPS, RUNS, STEPS, Task};
-use taskfile::no_task;
+use table::{ACTIONS, ALL_STEPS, RUNS, STEPS, Task, no_task};
 
 // Where the parts of a task stand among its words.
 pub const FACTS_AT: usize = 0;
@@ -35,64 +34,38 @@ pub const STEPS_AT: usize = COUNTS_AT + RUNS;
 
 pub const TASK_WORDS: usize = STEPS_AT + ALL_STEPS;
 
-// The greatest step: no step above it fits a byte, and it is below no number of actions.
-pub const LAST_STEP: u64 = 255;
-
-// The masks of the actions or of the runs, as many as there is room for.
-fn copy_masks(words: &[u64], at: usize, masks: &mut [u64])
-    requires { at + length masks.old ≤ length words.now }
-    ensures { masks.new ≡ take (length masks.old) (drop at words.now) }
+// As many masks from a place on as the array has: those of all actions, or of all runs.
+fn copy_masks<const N: usize>(words: &[u64], at: usize, masks: &mut [u64; N])
+    requires { at + N ≤ length words.now }
+    ensures { masks.new ≡ take N (drop at words.now) }
 {
-    for i in 0..masks.len() {
-        masks[i] = words[at + i];
-    }
-}
-
-// The masks of all actions, and of all runs: a field of the task is lent as an array, which is no slice.
-fn copy_action_masks(words: &[u64], at: usize, masks: &mut [u64; ACTIONS])
-    requires { at + max_actions ≤ length words.now }
-    ensures { masks.new ≡ masks_at words.now at }
-{
-    copy_masks(words, at, masks);
-}
-
-fn copy_run_masks(words: &[u64], at: usize, masks: &mut [u64; RUNS])
-    requires { at + max_runs ≤ length words.now }
-    ensures { masks.new ≡ of_runs_at words.now at }
-{
-    copy_masks(words, at, masks);
+    masks.copy_from_slice(&words[at..at + N]);
 }
 
 // The number of steps of each run.
 fn copy_counts(words: &[u64], counts: &mut [usize; RUNS])
-    requires words_len { length words.now ≡ task_words }
-    requires counts_len { length counts.old ≡ max_runs }
+    requires { length words.now ≡ task_words }
     ensures { counts.new ≡ of_runs_at words.now counts_at }
 {
-    for i in 0..RUNS {
-        counts[i] = words[COUNTS_AT + i] as usize;
+    for (i, count) in counts.iter_mut().enumerate() {
+        *count = words[COUNTS_AT + i] as usize;
     }
 }
 
+// No step above 255 fits a byte, and 255 is below no number of actions.
 fn step_in(word: u64) -> u8
     ensures { result ≡ step_in word }
 {
-    if word < LAST_STEP {
-        word as u8
-    } else {
-        LAST_STEP as u8
-    }
+    u8::try_from(word).unwrap_or(u8::MAX)
 }
 
-// Whether all words from one place on and before another are zero. They are joined, and the join is tested once: so the compiler may
-// take several at a time.
-fn are_zero(words: &[u64], from: usize, to: usize) -> bool
-    requires { (from ≤ to) × (to ≤ length words.now) }
-    ensures { result ≡ true → Zeros words.now from to }
+// Whether all words are zero. They are joined, and the join is tested once: so the compiler may take several at a time.
+fn are_zero(words: &[u64]) -> bool
+    ensures { result ≡ true → Zeros words.now 0 (length words.now) }
 {
     let mut every = 0;
-    for i in from..to {
-        every = facts::join(every, words[i]);
+    for &word in words {
+        every = facts::join(every, word);
     }
     facts::is_within(every, 0)
 }
@@ -105,7 +78,7 @@ fn used_steps(words: &[u64]) -> usize
     let many = words[MANY_AT];
     if many < RUNS as u64 {
         let used = STEPS * (many as usize);
-        if are_zero(words, STEPS_AT + used, TASK_WORDS) {
+        if are_zero(&words[STEPS_AT + used..]) {
             return used;
         }
     }
@@ -119,8 +92,8 @@ fn copy_steps(words: &[u64], used: usize, steps: &mut [u8; ALL_STEPS])
     requires steps_value { steps.old ≡ replicate all_steps 0 }
     ensures { steps.new ≡ map step_in (take all_steps (drop steps_at words.now)) }
 {
-    for i in 0..used {
-        steps[i] = step_in(words[STEPS_AT + i]);
+    for (i, &word) in words[STEPS_AT..STEPS_AT + used].iter().enumerate() {
+        steps[i] = step_in(word);
     }
 }
 
@@ -136,12 +109,12 @@ pub fn task_in(words: &[u64]) -> Task
     t.table.actions = words[ACTIONS_AT] as usize;
     t.table.limit = words[LIMIT_AT] as usize;
     t.runs.many = words[MANY_AT] as usize;
-    copy_action_masks(words, NEEDS_AT, &mut t.table.needs);
-    copy_action_masks(words, ADDS_AT, &mut t.table.adds);
-    copy_action_masks(words, DELETES_AT, &mut t.table.deletes);
-    copy_action_masks(words, LOCKS_AT, &mut t.table.locks);
-    copy_run_masks(words, STARTS_AT, &mut t.runs.starts);
-    copy_run_masks(words, GOALS_AT, &mut t.runs.goals);
+    copy_masks(words, NEEDS_AT, &mut t.table.needs);
+    copy_masks(words, ADDS_AT, &mut t.table.adds);
+    copy_masks(words, DELETES_AT, &mut t.table.deletes);
+    copy_masks(words, LOCKS_AT, &mut t.table.locks);
+    copy_masks(words, STARTS_AT, &mut t.runs.starts);
+    copy_masks(words, GOALS_AT, &mut t.runs.goals);
     copy_counts(words, &mut t.runs.counts);
     copy_steps(words, used_steps(words), &mut t.runs.steps);
     t

@@ -1,7 +1,7 @@
 -- The sections of a file together are no longer than the longest file, so that every place in it can be counted.
 use mathlib.Core.List.{[], ◌∷◌, ◌++◌}
 use mathlib.Core.Path.{◌≡◌, refl}
-use Prim.Native.Nat.{ℕ, suc, ◌+◌, ◌≤◌}
+use Prim.Native.Nat.{ℕ, suc, ◌+◌, ◌-◌, ◌≤◌}
 use native.Mathlib.Omega.{arith}
 use lib.ListN.{length, length-append}
 use Rattle.table.specs.Tasks.{start_of, goal_of, count_of, WellFormed}
@@ -25,10 +25,10 @@ pub steps_are : (t : Task) (i : ℕ) → steps_from t.runs.steps i (count_of t.r
 unfolding step_records
 steps_are t i = refl
 
-pub run_is : (t : Task) (i : ℕ) → let r = t.runs in
-    run_with t.table.facts (start_of r (i + 1)) (goal_of r (i + 1)) r.steps (i + 1) (count_of r (i + 1)) ≡ further_run t (suc i)
+pub run_is : (t : Task) (i : ℕ) → 1 ≤ i → let r = t.runs in
+    run_with t.table.facts (start_of r i) (goal_of r i) r.steps i (count_of r i) ≡ further_run t (suc (i - 1))
 unfolding run_with both_sets further_run set_records step_records
-run_is t i = let e : i + 1 ≡ suc i = omega arith in rw e
+run_is t i further = let e : suc (i - 1) ≡ i = omega arith in rw e refl
 
 module _ (t : Task) (w : WellFormed t) where
   pub runs_fit : length (through_cells t) + length (step_records t.runs 0) + length (further_runs t) + 1 ≤ longest_file

@@ -5,10 +5,10 @@ ghost use Rattle.room.specs.Placing.{last_place, Placed};
 ghost use Rattle.taskformat.specs.Format.{file_of};
 ghost use Rattle.taskwriter.specs.Pieces.{sizes_of, through_goals, through_cells, further_runs};
 
-use crate::kinds::{ADD, DELETE, END, LOCK, NEED, SIZES};
 use crate::sections::{cell_records, run_records, set_records, step_records};
+use records::kinds::Kind;
 use room::{put, put_word};
-use table::Task;
+use table::{Table, Task};
 
 fn sizes(task: Task, room: &mut [u8]) -> usize
     requires { WellFormed task }
@@ -16,7 +16,7 @@ fn sizes(task: Task, room: &mut [u8]) -> usize
 {
     let table = task.table;
     let bytes = [
-        SIZES,
+        Kind::Sizes.number(),
         table.facts as u8,
         table.actions as u8,
         table.limit as u8,
@@ -28,24 +28,23 @@ fn through_goals(task: Task, room: &mut [u8]) -> usize
     requires { WellFormed task }
     ensures { Placed room.old room.new 0 result (through_goals task) }
 {
-    let facts = task.table.facts;
-    let starts = task.runs.starts;
-    let goals = task.runs.goals;
+    let runs = &task.runs;
     let next = sizes(task, room);
-    set_records(room, next, facts, starts[0], goals[0])
+    set_records(room, next, task.table.facts, runs.starts[0], runs.goals[0])
 }
 
+#[tactic(auto, using(crate::proofs::SectionLength::cells_fit))]
 fn through_cells(task: Task, room: &mut [u8]) -> usize
     requires { WellFormed task }
     ensures { Placed room.old room.new 0 result (through_cells task) }
 {
-    let facts = task.table.facts;
-    let actions = task.table.actions;
+    let table = &task.table;
+    let Table { facts, actions, .. } = *table;
     let next = through_goals(task, room);
-    let next = cell_records(room, next, NEED, facts, actions, &task.table.needs);
-    let next = cell_records(room, next, ADD, facts, actions, &task.table.adds);
-    let next = cell_records(room, next, DELETE, facts, actions, &task.table.deletes);
-    cell_records(room, next, LOCK, facts, actions, &task.table.locks)
+    let next = cell_records(room, next, Kind::Need, facts, actions, &table.needs);
+    let next = cell_records(room, next, Kind::Add, facts, actions, &table.adds);
+    let next = cell_records(room, next, Kind::Delete, facts, actions, &table.deletes);
+    cell_records(room, next, Kind::Lock, facts, actions, &table.locks)
 }
 
 // The runs after the first.
@@ -54,23 +53,17 @@ fn further_runs(task: Task, room: &mut [u8], at: usize) -> usize
     requires task_bound { at + length (further_runs task) ≤ last_place }
     ensures { Placed room.old room.new at result (further_runs task) }
 {
-    let facts = task.table.facts;
-    let starts = task.runs.starts;
-    let goals = task.runs.goals;
-    let counts = task.runs.counts;
-    let further = task.runs.many - 1;
     let mut next = at;
-    for i in 0..further {
-        let run = i + 1;
+    for run in 1..task.runs.many {
         next = run_records(
             room,
             next,
-            facts,
-            starts[run],
-            goals[run],
+            task.table.facts,
+            task.runs.starts[run],
+            task.runs.goals[run],
             &task.runs.steps,
             run,
-            counts[run],
+            task.runs.counts[run],
         );
     }
     next
@@ -81,9 +74,8 @@ pub(crate) fn whole(task: Task, room: &mut [u8]) -> usize
     requires { WellFormed task }
     ensures { Placed room.old room.new 0 result (file_of task) }
 {
-    let counts = task.runs.counts;
     let next = through_cells(task, room);
-    let next = step_records(room, next, &task.runs.steps, 0, counts[0]);
+    let next = step_records(room, next, &task.runs.steps, 0, task.runs.counts[0]);
     let next = further_runs(task, room, next);
-    put(room, next, END)
+    put(room, next, Kind::End.number())
 }

@@ -4,10 +4,11 @@ ghost use Rattle.facts.specs.Sets.{has};
 ghost use Rattle.table.specs.Lists.{piece};
 ghost use Rattle.table.specs.Sizes.{max_facts, max_actions, max_steps, max_runs};
 ghost use Rattle.taskformat.specs.Format.{fact_records, cell_records};
+ghost use Rattle.records.specs.Kinds.{kind_number};
 ghost use Rattle.room.specs.Placing.{last_place, Placed};
 ghost use Rattle.taskwriter.specs.Pieces.{action_records, both_sets, steps_from, run_with};
 
-use crate::kinds::{GOAL, RUN, START, STEP};
+use records::kinds::Kind;
 use room::{put, put_word};
 use table::{ACTIONS, ALL_STEPS, STEPS};
 
@@ -22,14 +23,14 @@ fn record_if_in(room: &mut [u8], at: usize, set: u64, fact: usize, bytes: &[u8])
     at
 }
 
-pub(crate) fn fact_records(room: &mut [u8], at: usize, kind: u8, facts: usize, set: u64) -> usize
-    requires { (at + length (fact_records kind facts set) ≤ last_place) × (facts ≤ max_facts) }
-    ensures { Placed room.old room.new at result (fact_records kind facts set) }
+pub(crate) fn fact_records(room: &mut [u8], at: usize, kind: Kind, facts: usize, set: u64) -> usize
+    requires { (at + length (fact_records (kind_number kind) facts set) ≤ last_place) × (facts ≤ max_facts) }
+    ensures { Placed room.old room.new at result (fact_records (kind_number kind) facts set) }
 {
+    let byte = kind.number();
     let mut next = at;
     for fact in 0..facts {
-        let bytes = [kind, fact as u8];
-        next = record_if_in(room, next, set, fact, &bytes);
+        next = record_if_in(room, next, set, fact, &[byte, fact as u8]);
     }
     next
 }
@@ -38,18 +39,18 @@ pub(crate) fn fact_records(room: &mut [u8], at: usize, kind: u8, facts: usize, s
 fn action_records(
     room: &mut [u8],
     at: usize,
-    kind: u8,
+    kind: Kind,
     facts: usize,
     action: usize,
     set: u64,
 ) -> usize
-    requires { (at + length (action_records kind facts action set) ≤ last_place) × (action < max_actions) × (facts ≤ max_facts) }
-    ensures { Placed room.old room.new at result (action_records kind facts action set) }
+    requires { (at + length (action_records (kind_number kind) facts action set) ≤ last_place) × (action < max_actions) × (facts ≤ max_facts) }
+    ensures { Placed room.old room.new at result (action_records (kind_number kind) facts action set) }
 {
+    let byte = kind.number();
     let mut next = at;
     for fact in 0..facts {
-        let bytes = [kind, action as u8, fact as u8];
-        next = record_if_in(room, next, set, fact, &bytes);
+        next = record_if_in(room, next, set, fact, &[byte, action as u8, fact as u8]);
     }
     next
 }
@@ -57,13 +58,13 @@ fn action_records(
 pub(crate) fn cell_records(
     room: &mut [u8],
     at: usize,
-    kind: u8,
+    kind: Kind,
     facts: usize,
     actions: usize,
     sets: &[u64; ACTIONS],
 ) -> usize
-    requires { (at + length (cell_records kind facts actions sets.now) ≤ last_place) × (facts ≤ max_facts) × (actions ≤ max_actions) }
-    ensures { Placed room.old room.new at result (cell_records kind facts actions sets.now) }
+    requires { (at + length (cell_records (kind_number kind) facts actions sets.now) ≤ last_place) × (facts ≤ max_facts) × (actions ≤ max_actions) }
+    ensures { Placed room.old room.new at result (cell_records (kind_number kind) facts actions sets.now) }
 {
     let mut next = at;
     for action in 0..actions {
@@ -77,8 +78,8 @@ pub(crate) fn set_records(room: &mut [u8], at: usize, facts: usize, start: u64, 
     requires { (at + length (both_sets facts start goal) ≤ last_place) × (facts ≤ max_facts) }
     ensures { Placed room.old room.new at result (both_sets facts start goal) }
 {
-    let next = fact_records(room, at, START, facts, start);
-    fact_records(room, next, GOAL, facts, goal)
+    let next = fact_records(room, at, Kind::Start, facts, start);
+    fact_records(room, next, Kind::Goal, facts, goal)
 }
 
 // So many steps of one run, whose steps stand from place 64 times its number on.
@@ -92,10 +93,11 @@ pub(crate) fn step_records(
     requires { (at + length (steps_from steps.now run count) ≤ last_place) × (run < max_runs) × (count ≤ max_steps) }
     ensures { Placed room.old room.new at result (steps_from steps.now run count) }
 {
+    let byte = Kind::Step.number();
     let mut next = at;
-    for i in 0..count {
-        let bytes = [STEP, steps[STEPS * run + i]];
-        next = put_word(room, next, &bytes);
+    let first = STEPS * run;
+    for &step in &steps[first..first + count] {
+        next = put_word(room, next, &[byte, step]);
     }
     next
 }
@@ -114,7 +116,7 @@ pub(crate) fn run_records(
     requires { (at + length (run_with facts start goal steps.now run count) ≤ last_place) × (facts ≤ max_facts) × (run < max_runs) × (count ≤ max_steps) }
     ensures { Placed room.old room.new at result (run_with facts start goal steps.now run count) }
 {
-    let next = put(room, at, RUN);
+    let next = put(room, at, Kind::Run.number());
     let next = set_records(room, next, facts, start, goal);
     step_records(room, next, steps, run, count)
 }

@@ -1,15 +1,12 @@
 -- A line is its word, its fields and a line feed, placed one after another; and how long it can be. Assumes nothing.
 use mathlib.Core.Bool.{Bool, true, false, cond}
 use mathlib.Core.List.{List, [], ◌∷◌, ◌++◌}
-use mathlib.Core.Path.{◌≡◌, sym, ap, ◌∙◌, subst}
-use Prim.Native.Nat.{ℕ, zero, suc, ◌+◌, ◌/◌, ◌%◌, ◌<◌, ◌≤◌, zero-le}
+use mathlib.Core.Path.{◌≡◌, ap, ◌∙◌}
+use Prim.Native.Nat.{ℕ, zero, suc, ◌+◌, ◌/◌, ◌%◌, ◌≤◌, zero-le}
 use native.Mathlib.Omega.{arith}
 use lib.Dec.{ltb}
 use lib.ListN.{length, length-append}
-use borrow.Author.Tests.{ne_eqb}
-use Rattle.table.specs.Repairs.{drop_delete, add_effect, kind_of, action_of, fact_of}
-use Rattle.table.specs.declared.repair.Repair.{Repair}
-use Rattle.text.specs.Text.{most_digits, digit_zero, digits, feed, field, each, line, line_most, drop_delete_word, add_effect_word, drop_need_word, end_word, repair_word, set_line, repair_line, end_line, answer_lines}
+use Rattle.text.specs.Text.{most_digits, digit_zero, digits, feed, field, each, line, line_most, end_word, set_line, repair_line, end_line, answer_lines}
 use Rattle.text.proofs.EachLaws.{each_most}
 use Rattle.room.specs.Placing.{Placed}
 use Rattle.room.proofs.PlacingLaws.{placed_more}
@@ -24,30 +21,6 @@ pub line_placed : {a b c d : List ℕ} {at m k next : ℕ} {word : List ℕ} (nu
     → Placed b c m k (each field numbers) → Placed c d k next (feed ∷ []) → Placed a d at next (line word numbers)
 unfolding line
 line_placed numbers p q r = placed_more (placed_more p q) r
-
--- ---- the lines of repairs
-
-pub word_delete : (k : ℕ) → k ≡ drop_delete → repair_word k ≡ drop_delete_word
-word_delete k e = rw e
-
-pub word_add : (k : ℕ) → k ≡ add_effect → repair_word k ≡ add_effect_word
-word_add k e = rw e
-
-pub word_need : (k : ℕ) → add_effect < k → repair_word k ≡ drop_need_word
-word_need k h = rw (ne_eqb k drop_delete (λ e. omega arith), ne_eqb k add_effect (λ e. omega arith))
-
--- The repair that a number stands for, with the word of its kind.
-module _ (n : ℕ) (r : Repair) (e : r ≡ record { fact = fact_of n; kind = kind_of n; action = action_of n }) (word : List ℕ)
-    (h : repair_word r.kind ≡ word) where
-  repair_is : repair_line n ≡ line word (r.action ∷ r.fact ∷ [])
-  repair_is = rw e (ap (λ (w : List ℕ). line w (action_of n ∷ fact_of n ∷ [])) (rw e at h))
-
-  pub repair_length : length (repair_line n) ≡ length (line word (r.action ∷ r.fact ∷ []))
-  repair_length = ap length repair_is
-
-  pub repair_placed : {a b : List ℕ} {at next : ℕ} → Placed a b at next (line word (r.action ∷ r.fact ∷ []))
-      → Placed a b at next (repair_line n)
-  repair_placed {a} {b} {at} {next} p = subst (λ (l : List ℕ). Placed a b at next l) (sym repair_is) p
 
 -- ---- the lines of an answer
 

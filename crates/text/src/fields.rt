@@ -46,8 +46,8 @@ fn put_fields(room: &mut [u8], at: usize, numbers: &[usize]) -> usize
     ensures { Placed room.old room.new at result (each field numbers.now) }
 {
     let mut next = at;
-    for i in 0..numbers.len() {
-        next = put_field(room, next, numbers[i]);
+    for &n in numbers {
+        next = put_field(room, next, n);
     }
     next
 }

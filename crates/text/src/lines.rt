@@ -9,16 +9,14 @@ ghost use Rattle.room.specs.Placing.{last_place, Placed};
 use crate::fields::put_line;
 use room::put_word;
 use runcheck::Checked;
-use table::refusals::ACCEPTED;
 use table::repair::Repair;
-use table::{RUNS, Reply, Task, TaskReply};
+use table::{ACCEPTED, RUNS, Reply, Task, TaskReply};
 
 fn refused_line(room: &mut [u8], at: usize, number: usize, place: usize) -> usize
     requires { at + length (refused_line number place) ≤ last_place }
     ensures { Placed room.old room.new at result (refused_line number place) }
 {
-    let numbers = [number, place];
-    put_line(room, at, b"refused", &numbers)
+    put_line(room, at, b"refused", &[number, place])
 }
 
 // The steps of all runs (02, request 1).
@@ -26,11 +24,9 @@ fn count_steps(task: Task) -> usize
     requires { WellFormed task }
     ensures { result ≡ steps_of_all task.runs }
 {
-    let many = task.runs.many;
-    let counts = task.runs.counts;
     let mut steps = 0;
-    for i in 0..many {
-        steps = steps + counts[i];
+    for &count in &task.runs.counts[..task.runs.many] {
+        steps += count;
     }
     steps
 }
@@ -39,8 +35,7 @@ fn open_line(room: &mut [u8], at: usize, found: Checked) -> usize
     requires { at + length (open_line found) ≤ last_place }
     ensures { Placed room.old room.new at result (open_line found) }
 {
-    let numbers = [found.total, found.step, found.fact];
-    put_line(room, at, b"open", &numbers)
+    put_line(room, at, b"open", &[found.total, found.step, found.fact])
 }
 
 // What the check of each run found, in order.
@@ -50,8 +45,8 @@ fn open_lines(room: &mut [u8], at: usize, checks: [Checked; RUNS], many: usize) 
     ensures { Placed room.old room.new at result (open_lines (check_in checks) many) }
 {
     let mut next = at;
-    for i in 0..many {
-        next = open_line(room, next, checks[i]);
+    for &found in &checks[..many] {
+        next = open_line(room, next, found);
     }
     next
 }
@@ -61,28 +56,23 @@ fn first_lines(room: &mut [u8], task: Task, checks: [Checked; RUNS]) -> usize
     requires { WellFormed task }
     ensures { Placed room.old room.new 0 result (first_lines task (check_in checks)) }
 {
-    let table = task.table;
-    let many = task.runs.many;
-    let steps = count_steps(task);
-    let sizes = [table.facts, table.actions, table.limit, steps];
+    let table = &task.table;
+    let sizes = [table.facts, table.actions, table.limit, count_steps(task)];
     let next = put_line(room, 0, b"task", &sizes);
-    open_lines(room, next, checks, many)
+    open_lines(room, next, checks, task.runs.many)
 }
 
 fn repair_line(room: &mut [u8], at: usize, number: usize) -> usize
     requires { at + length (repair_line number) ≤ last_place }
     ensures { Placed room.old room.new at result (repair_line number) }
 {
-    let repair = Repair::of(number);
-    let kind = repair.kind;
-    let cell = [repair.action, repair.fact];
-    if kind == Repair::DROP_DELETE {
-        return put_line(room, at, b"drop-delete", &cell);
+    let Repair { fact, kind, action } = Repair::of(number);
+    let cell = [action, fact];
+    match kind {
+        Repair::DROP_DELETE => put_line(room, at, b"drop-delete", &cell),
+        Repair::ADD_EFFECT => put_line(room, at, b"add-effect", &cell),
+        _ => put_line(room, at, b"drop-need", &cell),
     }
-    if kind == Repair::ADD_EFFECT {
-        return put_line(room, at, b"add-effect", &cell);
-    }
-    put_line(room, at, b"drop-need", &cell)
 }
 
 fn repair_lines(room: &mut [u8], at: usize, list: &[u16]) -> usize
@@ -90,8 +80,8 @@ fn repair_lines(room: &mut [u8], at: usize, list: &[u16]) -> usize
     ensures { Placed room.old room.new at result (each repair_line list.now) }
 {
     let mut next = at;
-    for i in 0..list.len() {
-        next = repair_line(room, next, list[i] as usize);
+    for &number in list {
+        next = repair_line(room, next, usize::from(number));
     }
     next
 }
@@ -100,8 +90,7 @@ fn answer_lines(room: &mut [u8], at: usize, list: &[u16]) -> usize
     requires { at + length (answer_lines list.now) ≤ last_place }
     ensures { Placed room.old room.new at result (answer_lines list.now) }
 {
-    let count = [list.len()];
-    let next = put_line(room, at, b"set", &count);
+    let next = put_line(room, at, b"set", &[list.len()]);
     let next = repair_lines(room, next, list);
     put_word(room, next, b"end\n")
 }
@@ -123,11 +112,9 @@ pub fn whole(
     if read.number != ACCEPTED {
         return refused_line(room, 0, read.number, read.place);
     }
-    let task = read.task;
-    let next = first_lines(room, task, checks);
+    let next = first_lines(room, read.task, checks);
     if solved.number != ACCEPTED {
         return refused_line(room, next, solved.number, solved.place);
     }
-    let length = solved.length;
-    answer_lines(room, next, &list[..length])
+    answer_lines(room, next, &list[..solved.length])
 }

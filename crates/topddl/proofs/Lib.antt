@@ -1,4 +1,3 @@
 -- The laws of the program.
 pub mod RepairedLaws
 pub mod NumberedLaws
-pub mod ReadLaws

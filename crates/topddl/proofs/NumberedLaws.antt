@@ -1,20 +1,24 @@
 -- What is printed lies in the room: a listing, and a text by its number, which is never refused. Assumes nothing.
+use mathlib.Core.Bool.{true}
 use mathlib.Core.List.{List, ◌++◌}
 use mathlib.Core.Path.{◌≡◌, refl, sym, ap, ◌∙◌, subst}
 use Prim.Native.Nat.{ℕ, zero, suc, ◌-◌, ◌≤◌}
 use native.Mathlib.Omega.{arith}
 use borrow.Author.Tests.{lt-ltb}
 use lib.ListN.{length, drop, length-append}
+use Rattle.std.specs.Prelude.{Result, is_ok}
 use Rattle.listing.specs.Listing.{ListsInto}
 use Rattle.pddl.proofs.TextLength.{domain_length, problem_most}
 use Rattle.pddl.specs.Lengths.{longest_domain}
 use Rattle.pddl.specs.Texts.{domain_text}
 use Rattle.pddlwriter.specs.Writing.{domain_written, problem_of, problem_written}
+use Rattle.table.proofs.AcceptedLaws.{reply_ok}
 use Rattle.table.proofs.Formation.{well_formed}
 use Rattle.table.proofs.OutcomeLaws.{given_cases, given_fits}
-use Rattle.table.specs.Outcomes.{Outcome, answered, given}
+use Rattle.table.specs.Outcomes.{Outcome, answered, given, reply_of}
 use Rattle.table.specs.Tasks.{start_of, goal_of, WellFormed}
 use Rattle.table.specs.declared.Task.{Task}
+use Rattle.table.specs.declared.refusals.Refusal.{Refusal}
 use Rattle.topddl.specs.Numbered.{numbered, numbered_written, Holds}
 
 -- ---- a listing: what is told to have been written lies in the room
@@ -51,6 +55,10 @@ module _ (t : Task) (room : List ℕ) where
       rw (well_formed t w, lt-ltb i t.runs.many low)
       (given_fits (problem_of t i) room
       (omega (arith, problem_most t.table.facts (start_of t.runs i) (goal_of t.runs i) w.facts_high)))
+
+  pub written_ok : (n : ℕ) (r : Result ℕ Refusal) (after : List ℕ) → WellFormed t → longest_domain ≤ length room → n ≤ t.runs.many
+      → ◌≡◌ {A = Outcome} (record { reply = reply_of r; room = after }) (numbered_written t n room) → is_ok r ≡ true
+  written_ok n r after w fits low e = reply_ok r (ap (λ (p : Outcome). p.reply.number) (e ∙ always_written w fits n low))
 
   pub holds : (n : ℕ) (o : Outcome) → WellFormed t → longest_domain ≤ length room → n ≤ t.runs.many → o ≡ numbered_written t n room
       → Holds t n room o.reply.length o.room

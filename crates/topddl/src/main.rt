@@ -6,39 +6,20 @@
 
 mod texts;
 
-ghost use Rattle.std.specs.Prelude.{take, length, ◌≡◌, ◌≤◌, IfOk, IfSome};
+ghost use Rattle.std.specs.Prelude.{◌≤◌};
 ghost use Rattle.table.specs.Tasks.{WellFormed};
 
 use listing::LONGEST_TEXT;
 use pddlwriter::LONGEST_DOMAIN;
 use std::io;
-use std::io::Read;
+use stdio::{complain, read_full};
 use table::Task;
-use table::refusals::ACCEPTED;
 use taskfile::MOST_INPUT;
 use texts::{repaired, whole_text};
 
-// Reads until the buffer is full or the input ends, and returns how many bytes it put at the start of the buffer: of the bytes that
-// stood there, all that the buffer has room for.
-fn read_full<R: Read>(input: &mut R, buffer: &mut [u8]) -> io::Result<usize>
-    ensures within { IfOk result (λ n. n ≤ length buffer.new) }
-    ensures bytes { IfOk result (λ n. IfSome (R.remaining input.old) (λ s. take n buffer.new ≡ take (length buffer.new) s)) }
-{
-    let mut got = 0;
-    while got < buffer.len() {
-        let more = input.read(&mut buffer[got..])?;
-        if more == 0 {
-            break;
-        }
-        got += more;
-    }
-    Ok(got)
-}
-
 fn print_listing(rt: &impl Print, input: &[u8]) -> io::Result<()> {
     let mut room = [0u8; LONGEST_TEXT];
-    let told = listing::listing(input, &mut room);
-    let length = told.length;
+    let length = listing::listing(input, &mut room).unwrap();
     rt.write_all(&room[..length])
 }
 
@@ -61,16 +42,10 @@ fn print_texts(rt: &impl Print, task: Task) -> io::Result<()>
 }
 
 fn print_answer(rt: &impl Print, input: &[u8]) -> io::Result<()> {
-    let told = repaired(input);
-    if told.number != ACCEPTED {
-        return print_listing(rt, input);
+    match repaired(input) {
+        Ok(task) => print_texts(rt, task),
+        Err(_) => print_listing(rt, input),
     }
-    print_texts(rt, told.task)
-}
-
-// Says on standard error what went wrong. There is nowhere to say that this can't be written.
-fn complain(rt: &impl Eprint, line: &str) {
-    let _ = rt.eprintln(line);
 }
 
 fn main(rt: HostRuntime) {

@@ -8,21 +8,22 @@ use Rattle.addrun.proofs.add_run.Goals as goal
 
 pub returns-then-task-ge-RUNS : goal.returns-then-task-ge-RUNS
 returns-then-task-ge-RUNS c =
-    let shaped : Shaped c.args.task = record { needs = search rules; adds = search rules; deletes = search rules; locks = search rules; starts = search rules; goals = search rules; counts = search rules; steps = search rules } in
+    let shaped : Shaped c.args.task = search rules in
     let a = c.args in
-    ninth_out a.task a.start a.goal a.steps.now c.refused.result c.refused.ensures (shaped) (omega arith)
+    rw (c.returning.ensures, c.at.ensures) (ninth_out a.task a.start a.goal a.steps.now shaped (omega arith))
 
 pub returns-then-steps-gt-STEPS : goal.returns-then-steps-gt-STEPS
 returns-then-steps-gt-STEPS c =
-    let shaped : Shaped c.args.task = record { needs = search rules; adds = search rules; deletes = search rules; locks = search rules; starts = search rules; goals = search rules; counts = search rules; steps = search rules } in
+    let shaped : Shaped c.args.task = search rules in
     let a = c.args in
-    long_out a.task a.start a.goal a.steps.now c.refused-then-steps-gt-STEPS.result c.refused-then-steps-gt-STEPS.ensures (shaped) (omega arith) (omega arith)
+    rw (c.returning-then-steps-gt-STEPS.ensures, c.at-then-steps-gt-STEPS.ensures)
+    (long_out a.task a.start a.goal a.steps.now shaped (omega arith) (omega arith))
 
 pub returns-then-not-is_formed : goal.returns-then-not-is_formed
 returns-then-not-is_formed c =
     let a = c.args in
-    unformed_out a.task a.start a.goal a.steps.now c.refused-then-not-is_formed.result c.refused-then-not-is_formed.ensures c.with_run-more.result
-    c.with_run-more.ensures (sym c.is_formed.ensures ∙ c.if-not-is_formed.true)
+    rw (c.returning-then-not-is_formed.ensures, c.at-then-not-is_formed.ensures)
+    (unformed_out a.task a.start a.goal a.steps.now c.with_run-more.result c.with_run-more.ensures (sym c.is_formed.ensures ∙ c.if-not-is_formed.true))
 
 pub returns : goal.returns
 returns c =

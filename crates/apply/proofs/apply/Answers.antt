@@ -10,20 +10,20 @@ pub returns-then-not-is_formed : goal.returns-then-not-is_formed
 returns-then-not-is_formed c =
     let a = c.args in
     let good = c.is_formed in
-    applies_unformed a.t a.list.now (sym good.ensures ∙ c.if-not-is_formed.true)
+    rw (c.returning.ensures, c.at.ensures) (applies_unformed a.t a.list.now (sym good.ensures ∙ c.if-not-is_formed.true))
 
-pub returns-then-wrong-list : goal.returns-then-wrong-list
-returns-then-wrong-list c =
+pub returns-in-Some : goal.returns-in-Some
+returns-in-Some c =
     let a = c.args in
     let good = c.is_formed in
-    let wrong = c.first_wrong-wrong in
-    applies_wrong a.t a.list.now wrong.result wrong.ensures (sym good.ensures ∙ c.if-not-is_formed.false) c.if-wrong-list.true
+    let wrong = c.in-Some in
+    rw (c.returning-in-Some.ensures, c.at-in-Some.ensures)
+    (applies_wrong a.t a.list.now wrong.wrong wrong.ensures.1 (sym good.ensures ∙ c.if-not-is_formed.false) wrong.ensures.0)
 
 pub returns : goal.returns
 returns c =
     let shaped : Shaped c.args.t = search rules in
     let a = c.args in
     let good = c.is_formed in
-    let wrong = c.first_wrong-wrong in
     applies_made a.t a.list.now c.make_all-table.result c.make_all-table.ensures (shaped)
-    (sym good.ensures ∙ c.if-not-is_formed.false) (omega (arith, wrong.ensures, c.if-wrong-list.false))
+    (sym good.ensures ∙ c.if-not-is_formed.false) (omega (arith, c.in_default.ensures))

@@ -1,24 +1,18 @@
 -- `zp_edit`: the room for the answer first, then what the edit gives; the task's words are written where it was accepted.
 use native.Mathlib.Omega.{arith}
-use mathlib.Core.Path.{refl}
+use mathlib.Core.Path.{refl, sym}
 use Rattle.taskwords.specs.Answers.{changed_words}
-use Rattle.boundary.specs.BoundaryCalls.{EditsSession}
-use Rattle.taskwords.proofs.AnsweringLaws.{answers_short, answers_given}
+use Rattle.taskwords.proofs.AnsweringLaws.{answers_given}
 use Rattle.boundary.proofs.ChangingLaws.{edited_length}
 use Rattle.boundary.proofs.zp_edit.Goals as goal
 
-pub returns-then-answer-lt-CHANGED_WORDS : goal.returns-then-answer-lt-CHANGED_WORDS
-unfolding EditsSession
-returns-then-answer-lt-CHANGED_WORDS c = answers_short (omega arith) (refl, refl)
-
 pub give_back-requires : goal.give_back-requires
 give_back-requires c =
-    edited_length _ _ _ _ _ (rw (c.task_in-t.ensures, c.edit_of-e.ensures) at c.edit-done.ensures)
+    edited_length _ _ _ _ _ (rw (c.task_in-t.ensures, c.edit_of-e.ensures, sym c.from-number.ensures) at c.edit.ensures)
 
 pub returns : goal.returns
-unfolding EditsSession
 returns c =
-    let done = c.edit-done.result in
+    let done = c.from-number.result in
     answers_given (changed_words done.number done.place) (omega (arith, c.if-answer-lt-CHANGED_WORDS.false))
-    (done, (rw (c.task_in-t.ensures, c.edit_of-e.ensures) at c.edit-done.ensures, c.give_back.ensures), refl)
+    (done, (rw (c.task_in-t.ensures, c.edit_of-e.ensures, sym c.from-number.ensures) at c.edit.ensures, c.give_back.ensures), refl)
     c.give_changed.ensures

@@ -1,18 +1,12 @@
 -- `zp_read`: the room first, then what reading the file gives.
 use native.Mathlib.Omega.{arith}
-use Rattle.taskwords.proofs.AnsweringLaws.{answers_short, answers_given}
-use mathlib.Core.Path.{refl}
+use Rattle.taskwords.proofs.AnsweringLaws.{answers_given}
+use mathlib.Core.Path.{refl, sym}
 use Rattle.taskwords.specs.Answers.{task_answer}
-use Rattle.boundary.specs.BoundaryCalls.{ReadsTask}
 use Rattle.boundary.proofs.zp_read.Goals as goal
 
-pub returns-then-answer-lt-TASK_ANSWER_WORDS : goal.returns-then-answer-lt-TASK_ANSWER_WORDS
-unfolding ReadsTask
-returns-then-answer-lt-TASK_ANSWER_WORDS c = answers_short (omega arith) tt
-
 pub returns : goal.returns
-unfolding ReadsTask
 returns c =
-    let found = c.read-found.result in
+    let found = c.from.result in
     answers_given (task_answer found.number found.place found.task) (omega (arith, c.if-answer-lt-TASK_ANSWER_WORDS.false))
-    (found, c.read-found.ensures, refl) c.give_task.ensures
+    (found, rw (sym c.from.ensures) at c.read.ensures, refl) c.give_task.ensures

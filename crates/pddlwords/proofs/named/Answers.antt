@@ -10,6 +10,10 @@ pub put_word-next-requires-2 : goal.put_word-next-requires-2
 put_word-next-requires-2 c =
     omega (arith, c.requires, name_most c.args.n)
 
+pub invariant_of-result : goal.invariant_of-result
+invariant_of-result c =
+    omega (arith, c.requires, name_most c.args.n, c.put_word-next.ensures.next_is, c.put_name-next.ensures.next_is, c.put_word-next-2.ensures.next_is)
+
 pub returns : goal.returns
 returns c =
     spelled (search rules) (simp length-append (omega (arith, c.requires, name_most c.args.n)))

@@ -2,8 +2,5 @@
 use Rattle.rows.proofs.WrongLaws.{Searched}
 use Rattle.rows.proofs.fill.Given as goal
 
-abbrev pub invariant-loop-left : goal.invariant-loop-left
-invariant-loop-left l = Searched l.t l.left l.initial.table l.table
-
-abbrev pub decreases-loop-left : goal.decreases-loop-left
-decreases-loop-left l = l.left
+abbrev pub invariant-loop-f : goal.invariant-loop-f
+invariant-loop-f l = Searched l.t l.f-iterator.rest l.initial.table l.table

@@ -6,86 +6,30 @@ use Rattle.facts.specs.Sets.{has}
 use Rattle.table.specs.Sizes.{max_facts}
 use Rattle.table.specs.Tasks.{cells_of, count_of, step_of, course_of, WellFormed}
 use Rattle.table.specs.declared.Task.{Task}
-use Rattle.table.proofs.Formation.{step_lt}
 use Rattle.runcheck.specs.OpenNeeds.{states_of}
 use Rattle.runcheck.specs.Tallies.{noted, stepped}
-use Rattle.runcheck.specs.declared.Tally.{Tally}
+use Rattle.runcheck.specs.declared.OpenNeeds.{OpenNeeds}
 use Rattle.runcheck.proofs.StateLaws.{state_first, state_next}
 use Rattle.runcheck.proofs.TallyLaws.{tally_of, tally_start, tally_of_le, needs_next, goals_next}
 use Rattle.runcheck.proofs.tally_run.Goals as goal
 
 -- before step i: how large the total is
-total_low : (t : Task) (run i : ℕ) (tally : Tally) → WellFormed t → tally ≡ tally_of t run (states_of t run) i → tally.total ≤ i * max_facts
-total_low t run i tally w e = omega (arith, ap (λ (s : Tally). s.total) e, tally_of_le t w run (states_of t run) i)
-
-pub bounds-runs-run : goal.bounds-runs-run
-bounds-runs-run c = omega (arith, c.requires.0.many_high)
-
-pub overflow_mul-first : goal.overflow_mul-first
-overflow_mul-first c = omega (arith, c.requires.0.many_high)
-
-pub offset_bounds-runs-run-2 : goal.offset_bounds-runs-run-2
-offset_bounds-runs-run-2 c = omega (arith, c.requires.0.many_high)
-
-pub bounds-runs-run-2 : goal.bounds-runs-run-2
-bounds-runs-run-2 c = omega (arith, c.requires.0.many_high)
+total_low : (t : Task) (run i : ℕ) (tally : OpenNeeds) → WellFormed t → tally ≡ tally_of t run (states_of t run) i → tally.total ≤ i * max_facts
+total_low t run i tally w e = omega (arith, ap (λ (s : OpenNeeds). s.total) e, tally_of_le t w run (states_of t run) i)
 
 pub loop-i-init : goal.loop-i-init
 loop-i-init c =
     let t = c.args.t in
     let run = c.args.run in
-    (omega arith, state_first t run, sym (tally_start (cells_of t.table) (course_of t.runs run) (states_of t run)))
-
-pub overflow_add-a : goal.overflow_add-a
-overflow_add-a c = omega (arith, c.requires.0.many_high, c.requires.0.count_high c.args.run)
-
-pub bounds-runs-first : goal.bounds-runs-first
-bounds-runs-first c = omega (arith, c.requires.0.many_high, c.requires.0.count_high c.args.run)
-
-pub overflow_cast-a : goal.overflow_cast-a
-overflow_cast-a c =
-    omega (arith, step_lt c.args.t c.requires.0 c.args.run c.loop-i.i (omega (arith, c.requires.0.count_high c.args.run)))
-
-pub offset_bounds-needs-a : goal.offset_bounds-needs-a
-offset_bounds-needs-a c =
-    omega (arith, step_lt c.args.t c.requires.0 c.args.run c.loop-i.i (omega (arith, c.requires.0.count_high c.args.run)))
-
-pub bounds-needs-a : goal.bounds-needs-a
-bounds-needs-a c =
-    step_lt c.args.t c.requires.0 c.args.run c.loop-i.i (omega (arith, c.requires.0.count_high c.args.run))
-
-pub overflow_add-i : goal.overflow_add-i
-overflow_add-i c = omega (arith, c.requires.0.many_high, c.requires.0.count_high c.args.run)
+    (state_first t run, sym (tally_start (cells_of t.table) (course_of t.runs run) (states_of t run)))
 
 pub note-tally-requires : goal.note-tally-requires
 note-tally-requires c =
     omega (
       arith,
       c.requires.0.count_high c.args.run,
-      total_low c.args.t c.args.run c.loop-i.i c.loop-i.tally c.requires.0 c.loop-i.invariant.2,
+      total_low c.args.t c.args.run c.loop-i.i c.loop-i.tally c.requires.0 c.loop-i.invariant.1,
     )
-
-pub offset_bounds-adds-a : goal.offset_bounds-adds-a
-offset_bounds-adds-a c =
-    omega (arith, step_lt c.args.t c.requires.0 c.args.run c.loop-i.i (omega (arith, c.requires.0.count_high c.args.run)))
-
-pub bounds-adds-a : goal.bounds-adds-a
-bounds-adds-a c =
-    step_lt c.args.t c.requires.0 c.args.run c.loop-i.i (omega (arith, c.requires.0.count_high c.args.run))
-
-pub offset_bounds-deletes-a : goal.offset_bounds-deletes-a
-offset_bounds-deletes-a c =
-    omega (arith, step_lt c.args.t c.requires.0 c.args.run c.loop-i.i (omega (arith, c.requires.0.count_high c.args.run)))
-
-pub bounds-deletes-a : goal.bounds-deletes-a
-bounds-deletes-a c =
-    step_lt c.args.t c.requires.0 c.args.run c.loop-i.i (omega (arith, c.requires.0.count_high c.args.run))
-
-pub overflow_step-i : goal.overflow_step-i
-overflow_step-i c = omega (arith, c.requires.0.many_high, c.requires.0.count_high c.args.run)
-
-pub loop-i-smaller : goal.loop-i-smaller
-loop-i-smaller c = omega arith
 
 pub loop-i-preserved : goal.loop-i-preserved
 loop-i-preserved c =
@@ -94,34 +38,24 @@ loop-i-preserved c =
     let i = c.loop-i.i in
     let adds = get_or t.table.adds (step_of t.runs run i) 0 in
     let deletes = get_or t.table.deletes (step_of t.runs run i) 0 in (
-      omega arith,
       λ f.
           ap (λ (m : ℕ). has m f) (c.after_step-state.ensures ∙ ap (λ (m : ℕ). stepped c.loop-i.state m adds deletes) c.remove-absent.ensures) ∙
-          state_next t c.requires.0 run i c.loop-i.state (omega arith) c.loop-i.invariant.1 f,
-      c.note-tally.ensures ∙ (λ j. noted (c.loop-i.invariant.2 j) (c.remove-absent.ensures j) (i + 1)) ∙
-          needs_next t c.requires.0 run (states_of t run) i c.loop-i.state c.loop-i.invariant.1 c.loop-i-test.true,
+          state_next t c.requires.0 run i c.loop-i.state (omega arith) c.loop-i.invariant.0 f,
+      c.note-tally.ensures ∙ (λ j. noted (c.loop-i.invariant.1 j) (c.remove-absent.ensures j) (i + 1)) ∙
+          needs_next t c.requires.0 run (states_of t run) i c.loop-i.state c.loop-i.invariant.0 c.loop-i-test.true,
     )
-
-pub offset_bounds-goals-run : goal.offset_bounds-goals-run
-offset_bounds-goals-run c = omega (arith, c.requires.0.many_high)
-
-pub bounds-goals-run : goal.bounds-goals-run
-bounds-goals-run c = omega (arith, c.requires.0.many_high)
-
-pub overflow_add-count : goal.overflow_add-count
-overflow_add-count c = omega (arith, c.requires.0.many_high, c.requires.0.count_high c.args.run)
 
 pub note-requires : goal.note-requires
 note-requires c =
     omega (
       arith,
       c.requires.0.count_high c.args.run,
-      total_low c.args.t c.args.run c.loop-i.i c.loop-i.tally c.requires.0 c.loop-i.invariant.2,
+      total_low c.args.t c.args.run c.loop-i.i c.loop-i.tally c.requires.0 c.loop-i.invariant.1,
     )
 
 pub returns : goal.returns
 returns c =
     let t = c.args.t in
     let run = c.args.run in
-    c.note.ensures ∙ (λ j. noted (c.loop-i.invariant.2 j) (c.remove.ensures j) (count_of t.runs run + 1)) ∙
-    goals_next t c.requires.0 run (states_of t run) c.loop-i.i c.loop-i.state c.loop-i.invariant.1 (omega arith)
+    c.note.ensures ∙ (λ j. noted (c.loop-i.invariant.1 j) (c.remove.ensures j) (count_of t.runs run + 1)) ∙
+    goals_next t c.requires.0 run (states_of t run) c.loop-i.i c.loop-i.state c.loop-i.invariant.0 (omega arith)

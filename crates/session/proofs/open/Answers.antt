@@ -1,9 +1,9 @@
 -- `session::open` meets its contract: a law for each way out. Assumes nothing.
 use mathlib.Core.Bool.{not}
-use mathlib.Core.Path.{ap}
+use mathlib.Core.Path.{sym, ap, ◌∙◌}
 use borrow.Author.Rules.{rules}
 use native.Mathlib.Omega.{arith}
-use Rattle.table.proofs.Formation.{told_formed, told_unformed, well_formed}
+use Rattle.table.proofs.Formation.{told_formed}
 use Rattle.table.proofs.Strides.{session_places_rows}
 use Rattle.table.specs.Refusals.{not_well_formed, not_a_session}
 use Rattle.table.specs.Tasks.{Shaped}
@@ -14,21 +14,15 @@ use Rattle.session.proofs.open.Goals as goal
 pub returns-then-not-is_formed : goal.returns-then-not-is_formed
 returns-then-not-is_formed c =
     let a = c.args in
-    rw c.refusal.ensures
-    (opens_refused a.t a.table.now not_well_formed (omega arith)
-    (open_malformed a.t a.table.now (told_unformed a.t c.is_formed.ensures (ap not c.if-not-is_formed.true))))
+    rw c.at.ensures
+    (opens_refused a.t a.table.now not_well_formed (omega arith) (open_malformed a.t a.table.now (sym c.is_formed.ensures ∙ c.if-not-is_formed.true)))
 
 pub returns-then-table-ne-SESSION_PLACES : goal.returns-then-table-ne-SESSION_PLACES
 returns-then-table-ne-SESSION_PLACES c =
-    let shaped : Shaped c.args.t = search rules in
-    let well = told_formed c.args.t shaped c.is_formed.ensures (ap not c.if-not-is_formed.false) in
     let a = c.args in
-    rw c.refusal-then-table-ne-SESSION_PLACES.ensures
+    rw c.at-then-table-ne-SESSION_PLACES.ensures
     (opens_refused a.t a.table.now not_a_session (omega arith)
-    (open_not_a_session a.t a.table.now (well_formed a.t well) c.if-table-ne-SESSION_PLACES.true))
-
-pub empty_rows-requires : goal.empty_rows-requires
-empty_rows-requires c = omega (arith, c.if-table-ne-SESSION_PLACES.false, session_places_rows)
+    (open_not_a_session a.t a.table.now (sym c.is_formed.ensures ∙ c.if-not-is_formed.false) c.if-table-ne-SESSION_PLACES.true))
 
 pub fill-requires : goal.fill-requires
 fill-requires c =
@@ -43,8 +37,6 @@ fill-requires c =
 
 pub returns : goal.returns
 returns c =
-    let shaped : Shaped c.args.t = search rules in
-    let well = told_formed c.args.t shaped c.is_formed.ensures (ap not c.if-not-is_formed.false) in
     let a = c.args in
-    opens_opened a.t a.table.now (well_formed a.t well) c.if-table-ne-SESSION_PLACES.false _
+    opens_opened a.t a.table.now (sym c.is_formed.ensures ∙ c.if-not-is_formed.false) c.if-table-ne-SESSION_PLACES.false _
     (emptied_filled a.t a.table.now c.empty_rows.new.table _ c.empty_rows.ensures c.fill.ensures)

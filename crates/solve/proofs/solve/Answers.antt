@@ -1,91 +1,74 @@
 use mathlib.Core.Bool.{not}
-use mathlib.Core.Path.{refl, ap}
-use Prim.Native.Nat.{◌<◌}
+use mathlib.Core.Path.{refl, sym, ap, subst, ◌∙◌}
 use borrow.Author.Rules.{rules}
-use native.Mathlib.Nat.{pos_of_ne-zero}
-use Rattle.search.specs.Columns.{column_in}
+use Rattle.facts.specs.declared.Facts.{Facts}
 use Rattle.search.specs.Rows.{RightRow}
 use Rattle.table.specs.Refusals.{not_well_formed}
 use Rattle.table.specs.Tasks.{Shaped}
 use Rattle.table.proofs.Formation.{told_formed, told_unformed}
-use Rattle.table.specs.Outcomes.{refused}
+use Rattle.std.specs.Prelude.{Err}
+use Rattle.table.specs.Outcomes.{refused, reply_of}
 use Rattle.table.proofs.OutcomeLaws.{refused_told}
 use Rattle.rows.proofs.TableLaws.{right_first}
-use Rattle.solve.proofs.JoinedLaws.{joining_none, joining_small, joining_column, joining_row, joining_fewer, joining_more, joining_solves}
+use Rattle.solve.proofs.JoinedLaws.{Joining, joining_none, joining_small, joining_column, joining_row, joining_more, joining_solves}
 use Rattle.solve.proofs.SolveLaws.{solves_malformed}
 use Rattle.solve.proofs.solve.Goals as goal
+use Rattle.solve.proofs.solve.Goals.{After-row-row}
 
 pub returns-then-not-is_formed : goal.returns-then-not-is_formed
 returns-then-not-is_formed c =
     let a = c.args in
     solves_malformed a.t a.room.now _ (told_unformed a.t c.is_formed.ensures (ap not c.if-not-is_formed.true))
-    (refused_told not_well_formed c.refusal.result a.room.now (refused not_well_formed a.room.now) c.refusal.ensures refl)
+    (refused_told not_well_formed (reply_of (Err c.at.result)) a.room.now (refused not_well_formed a.room.now) (ap (λ e. reply_of (Err e)) c.at.ensures) refl)
 
-pub wrong_facts-left-requires : goal.wrong_facts-left-requires
-wrong_facts-left-requires c =
+-- The row found is the right one of the fact that the loop comes to.
+right_row : (c : After-row-row) → RightRow c.args.t c.in-Some.f c.row-row.result
+right_row c =
+    let step = c.in-Some.ensures.steps in
+    joining_row c.args.t c.loop-f.invariant.well c.loop-f.f-iterator.rest c.loop-f.joined c.loop-f.invariant step.0 c.in-Some.f step.1
+    c.column_of-col.result c.column_of-col.ensures c.row-row.result c.row-row.ensures
+
+pub wrong_facts-requires : goal.wrong_facts-requires
+wrong_facts-requires c =
+    let shaped : Shaped c.args.t = search rules in
+    told_formed c.args.t shaped c.is_formed.ensures (ap not c.if-not-is_formed.false)
+
+pub loop-f-init : goal.loop-f-init
+loop-f-init c =
     let shaped : Shaped c.args.t = search rules in
     let well = told_formed c.args.t shaped c.is_formed.ensures (ap not c.if-not-is_formed.false) in
-    well
-
-pub loop-left-init : goal.loop-left-init
-loop-left-init c =
-    let shaped : Shaped c.args.t = search rules in
-    let well = told_formed c.args.t shaped c.is_formed.ensures (ap not c.if-not-is_formed.false) in
-    joining_none c.args.t well c.wrong_facts-left.result c.wrong_facts-left.ensures _
+    let start = c.into_iter-f-iterator.ensures.into_iter_gives ∙ c.each-f-items.ensures in
+    subst (λ (it : Facts). Joining c.args.t it.rest _) (sym start)
+    (joining_none c.args.t well c.wrong_facts.result c.wrong_facts.ensures _)
 
 pub row-row-requires : goal.row-row-requires
 row-row-requires c =
-    let shaped : Shaped c.args.t = search rules in
-    let well = told_formed c.args.t shaped c.is_formed.ensures (ap not c.if-not-is_formed.false) in
-    let some : 0 < c.loop-left.left = pos_of_ne-zero c.loop-left-test.true in
+    let step = c.in-Some.ensures.steps in
     let column =
-    joining_column c.args.t well c.loop-left.left c.loop-left.joined c.loop-left.invariant some c.lowest-f.result
-    c.lowest-f.ensures (column_in c.column_of-col.result) c.column_of-col.ensures in
+    joining_column c.args.t c.loop-f.invariant.well c.loop-f.f-iterator.rest c.loop-f.joined c.loop-f.invariant step.0 c.in-Some.f step.1
+    c.column_of-col.result c.column_of-col.ensures in
     record { column_formed = column.0; col_bound = column.1 }
 
-pub joined_with-joined-requires : goal.joined_with-joined-requires
-joined_with-joined-requires c =
-    let shaped : Shaped c.args.t = search rules in
-    let well = told_formed c.args.t shaped c.is_formed.ensures (ap not c.if-not-is_formed.false) in
-    let some : 0 < c.loop-left.left = pos_of_ne-zero c.loop-left-test.true in
-    let right : RightRow c.args.t c.lowest-f.result c.row-row.result =
-    joining_row c.args.t well c.loop-left.left c.loop-left.joined c.loop-left.invariant some c.lowest-f.result
-    c.lowest-f.ensures (column_in c.column_of-col.result) c.column_of-col.ensures c.row-row.result c.row-row.ensures in
+pub with_row-joined-requires : goal.with_row-joined-requires
+with_row-joined-requires c =
     let t = c.args.t in record {
-      total_le_all_rows = joining_small t well c.loop-left.left c.loop-left.joined c.loop-left.invariant;
-      row_bound = right_first t c.lowest-f.result c.row-row.result right;
+      total_le_all_rows = joining_small t c.loop-f.invariant.well c.loop-f.f-iterator.rest c.loop-f.joined c.loop-f.invariant;
+      row_bound = right_first t c.in-Some.f c.row-row.result (right_row (goal.at.with_row-joined-requires c).After-row-row);
     }
 
-pub loop-left-smaller : goal.loop-left-smaller
-loop-left-smaller c =
-    let shaped : Shaped c.args.t = search rules in
-    let well = told_formed c.args.t shaped c.is_formed.ensures (ap not c.if-not-is_formed.false) in
-    let some : 0 < c.loop-left.left = pos_of_ne-zero c.loop-left-test.true in
-    joining_fewer c.args.t well c.loop-left.left c.loop-left.joined c.loop-left.invariant some c.lowest-f.result
-    c.lowest-f.ensures c.without_fact-left.result c.without_fact-left.ensures
-
-pub loop-left-preserved : goal.loop-left-preserved
-loop-left-preserved c =
-    let shaped : Shaped c.args.t = search rules in
-    let well = told_formed c.args.t shaped c.is_formed.ensures (ap not c.if-not-is_formed.false) in
-    let some : 0 < c.loop-left.left = pos_of_ne-zero c.loop-left-test.true in
-    let right : RightRow c.args.t c.lowest-f.result c.row-row.result =
-    joining_row c.args.t well c.loop-left.left c.loop-left.joined c.loop-left.invariant some c.lowest-f.result
-    c.lowest-f.ensures (column_in c.column_of-col.result) c.column_of-col.ensures c.row-row.result c.row-row.ensures in
-    joining_more c.args.t well c.loop-left.left c.loop-left.joined c.loop-left.invariant some c.lowest-f.result
-    c.lowest-f.ensures c.row-row.result c.joined_with-joined.result c.without_fact-left.result right c.joined_with-joined.ensures
-    c.without_fact-left.ensures
+pub loop-f-preserved : goal.loop-f-preserved
+loop-f-preserved c =
+    let step = c.in-Some.ensures.steps in
+    joining_more c.args.t c.loop-f.invariant.well c.loop-f.f-iterator.rest c.loop-f.joined c.loop-f.invariant step.0 c.in-Some.f step.1
+    c.row-row.result c.with_row-joined.result _ (right_row (goal.at.loop-f-preserved c).After-row-row) c.with_row-joined.ensures
+    (ap (λ (it : Facts). it.rest) step.2)
 
 pub tell-requires : goal.tell-requires
-tell-requires c =
-    let shaped : Shaped c.args.t = search rules in
-    let well = told_formed c.args.t shaped c.is_formed.ensures (ap not c.if-not-is_formed.false) in
-    well.limit_high
+tell-requires c = c.loop-f.invariant.well.limit_high
 
 pub returns : goal.returns
 returns c =
-    let shaped : Shaped c.args.t = search rules in
-    let well = told_formed c.args.t shaped c.is_formed.ensures (ap not c.if-not-is_formed.false) in
+    let well = c.loop-f.invariant.well in
     let a = c.args in
-    joining_solves a.t well a.room.now c.loop-left.left c.loop-left-test.false c.loop-left.joined c.loop-left.invariant
-    c.tell.result c.tell.new.room c.tell.ensures.0 c.tell.ensures.1
+    joining_solves a.t well a.room.now c.loop-f.f-iterator.rest c.in-None.ensures.steps.0 c.loop-f.joined c.loop-f.invariant
+    (reply_of c.tell.result) c.tell.new.room c.tell.ensures.0 c.tell.ensures.1

@@ -3,8 +3,5 @@
 use Rattle.solve.proofs.JoinedLaws.{Joining}
 use Rattle.solve.proofs.solve.Given as goal
 
-abbrev pub invariant-loop-left : goal.invariant-loop-left
-invariant-loop-left l = Joining l.t l.left l.joined
-
-abbrev pub decreases-loop-left : goal.decreases-loop-left
-decreases-loop-left l = l.left
+abbrev pub invariant-loop-f : goal.invariant-loop-f
+invariant-loop-f l = Joining l.t l.f-iterator.rest l.joined

@@ -1,16 +1,12 @@
--- `closes`: where fewer than three bytes are left, none. Assumes nothing.
-use mathlib.Core.Path.{refl, sym}
+-- `closes`: behind the input no line stands. Assumes nothing.
+use mathlib.Core.Path.{sym, ◌∙◌}
 use native.Mathlib.Omega.{arith}
-use Rattle.frompddl.specs.Splitting.{closing}
-use Rattle.frompddl.proofs.SplitLaws.{no_closing}
+use borrow.Author.Tests.{le-ltb}
+use Rattle.frompddl.proofs.SplitLaws.{closing_begins, no_closing}
 use Rattle.frompddl.proofs.split.closes.Goals as goal
 
-pub returns-then-s-at : goal.returns-then-s-at
-returns-then-s-at c = sym (no_closing _ _ (omega arith))
+pub returns-then-at-s : goal.returns-then-at-s
+returns-then-at-s c = c.starts_with.ensures.value ∙ closing_begins c.args.s.now c.args.at
 
-pub returns-then-s-at-lt3 : goal.returns-then-s-at-lt3
-returns-then-s-at-lt3 c = sym (no_closing _ _ (omega arith))
-
-pub returns : goal.returns
-unfolding closing
-returns c = refl
+pub returns-else-at-s : goal.returns-else-at-s
+returns-else-at-s c = le-ltb _ _ c.if-at-s.false ∙ sym (no_closing _ _ (omega arith))

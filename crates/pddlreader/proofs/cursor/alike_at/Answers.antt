@@ -1,29 +1,20 @@
-use native.Mathlib.Omega.{arith}
-use Rattle.pddlreader.proofs.ReachLaws.{sofar_none, sofar_more, text_ends, word_ends, differs, reach_fits}
+-- `alike_at`: the first place where what is left of the text and the word differ, or the end of the shorter.
+use mathlib.Core.Path.{◌≡◌, refl, ap, ◌∙◌}
+use lib.ListN.{drop}
+use Rattle.std.proofs.Common.{rules, tests}
+use Rattle.std.proofs.lemmas.Iterator.{YieldsList-from_slice, YieldsList-from_zip}
+use Rattle.std.proofs.lemmas.Iterator.Search.{position_from_yields_List}
+use Rattle.layout.specs.Beginnings.{alike}
+use Rattle.pddlreader.proofs.ReachLaws.{differ, left_of, stands_up_to}
 use Rattle.pddlreader.proofs.cursor.alike_at.Goals as goal
-
-pub returns-then-s-at : goal.returns-then-s-at
-returns-then-s-at c = let a = c.args in omega (arith, reach_fits a.s.now a.at a.word.now)
-
-pub loop-i-init : goal.loop-i-init
-loop-i-init c = let a = c.args in sofar_none a.s.now a.at a.word.now
-
-pub returns-then-left-i : goal.returns-then-left-i
-returns-then-left-i c =
-    let a = c.args in
-    text_ends a.s.now a.at a.word.now c.loop-i.i c.loop-i.invariant (omega arith)
-
-pub returns-then-s-at-2 : goal.returns-then-s-at-2
-returns-then-s-at-2 c =
-    let a = c.args in
-    differs a.s.now a.at a.word.now c.loop-i.i c.loop-i.invariant (omega arith) (omega arith) c.if-s-at-2.true
-
-pub loop-i-preserved : goal.loop-i-preserved
-loop-i-preserved c =
-    let a = c.args in
-    sofar_more a.s.now a.at a.word.now c.loop-i.i c.loop-i.invariant (omega arith) (omega arith) c.if-s-at-2.false
 
 pub returns : goal.returns
 returns c =
-    let a = c.args in
-    word_ends a.s.now a.at a.word.now c.loop-i.i c.loop-i.invariant (omega arith)
+    let s = c.args.s.now in
+    let w = c.args.word.now in
+    let text = c.unwrap_or-left.result.now in
+    let left : text ≡ drop c.args.at s = left_of s c.args.at c.get.result _ _ refl c.unwrap_or-left.ensures c.get.ensures.lookup.0 in
+    let first =
+    position_from_yields_List differ c.position.new.self _ c.position.result c.position.ensures.ran
+    (YieldsList-from_zip (YieldsList-from_slice text cc) (YieldsList-from_slice w (search rules))) (λ x b q k. search (rules, tests)) in
+    rw (c.unwrap_or.ensures, c.min.ensures) (stands_up_to text w c.position.result first ∙ ap (λ u. alike u w) left)

@@ -4,6 +4,7 @@ use Rattle.pddlreader.proofs.walks.walk_problem.Goals as goal
 
 pub returns : goal.returns
 returns c =
-    let a = c.args in
-    problem_parts a.facts a.text.now c.read_set-start.result c.read_set-goal.result c.expect-opened.ensures
-    c.read_set-start.ensures c.expect-goals.ensures c.read_set-goal.ensures c.expect-cursor.ensures
+    let start = c.read_set-start in
+    let goals = c.read_set-goal in
+    problem_parts c.args.facts c.args.text.now (record { cursor = start.new.self; set = start.result })
+    (record { cursor = goals.new.self; set = goals.result }) c.expect.ensures start.ensures c.expect-2.ensures goals.ensures c.expect-3.ensures

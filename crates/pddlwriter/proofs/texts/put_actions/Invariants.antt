@@ -1,5 +1,4 @@
 -- `put_actions`: one action after another.
-use Prim.Native.Nat.{◌-◌}
 use lib.ListN.{get_or}
 use Rattle.room.proofs.Gathering.{Gathering}
 use Rattle.pddl.specs.Texts.{action_text}
@@ -7,8 +6,5 @@ use Rattle.pddlwriter.proofs.texts.put_actions.Given as goal
 
 abbrev pub invariant-loop-action : goal.invariant-loop-action
 invariant-loop-action l =
-    Gathering (λ a. action_text l.facts a (get_or l.needs a 0) (get_or l.adds a 0) (get_or l.deletes a 0)) l.actions
+    Gathering (λ a. action_text l.fn.task.table.facts a (get_or l.fn.task.table.needs a 0) (get_or l.fn.task.table.adds a 0) (get_or l.fn.task.table.deletes a 0)) l.fn.task.table.actions
     l.initial.room l.room l.at l.next l.action
-
-abbrev pub decreases-loop-action : goal.decreases-loop-action
-decreases-loop-action l = l.actions - l.action

@@ -1,4 +1,5 @@
 -- `through_needs` places the head of the action and the lines of its needs.
+use mathlib.Core.Path.{◌∙◌}
 use Prim.Native.Nat.{◌+◌, ◌≤◌}
 use native.Mathlib.Omega.{arith}
 use lib.ListN.{length, length-append}
@@ -8,14 +9,13 @@ use Rattle.pddl.specs.Texts.{fact_line, lines_of, action_head}
 use Rattle.pddlwriter.specs.Pieces.{through_needs}
 use Rattle.pddlwriter.proofs.texts.through_needs.Goals as goal
 
-pub put_spelled-next-requires : goal.put_spelled-next-requires
+pub put_word-next-requires : goal.put_word-next-requires
 unfolding through_needs
-put_spelled-next-requires c =
+put_word-next-requires c =
     let a = c.args in
     let both_fit : a.at + (length (action_head a.action) + length (lines_of fact_line a.facts a.needs)) ≤ last_place =
     simp length-append at c.requires in
-    let w = c.action_head.ensures in
-    (w.fits, omega (arith, w.len_is, both_fit))
+    rw (c.text.ensures ∙ c.action_head.ensures.text) (omega (arith, both_fit))
 
 pub set_lines-requires : goal.set_lines-requires
 unfolding through_needs
@@ -23,10 +23,10 @@ set_lines-requires c =
     let a = c.args in
     let both_fit : a.at + (length (action_head a.action) + length (lines_of fact_line a.facts a.needs)) ≤ last_place =
     simp length-append at c.requires in
-    let head = rw c.action_head.ensures.text at c.put_spelled-next.ensures in
+    let head = rw (c.text.ensures ∙ c.action_head.ensures.text) at c.put_word-next.ensures in
     omega (arith, head.next_is, both_fit)
 
 pub returns : goal.returns
 unfolding through_needs
 returns c =
-    placed_more (rw c.action_head.ensures.text at c.put_spelled-next.ensures) c.set_lines.ensures
+    placed_more (rw (c.text.ensures ∙ c.action_head.ensures.text) at c.put_word-next.ensures) c.set_lines.ensures

@@ -1,16 +1,16 @@
 -- `promises::replay::replay`: one edit more, and none left. Assumes nothing.
-use Rattle.std.proofs.Common.{refl, arith}
-use Rattle.promises.proofs.ReplayLaws.{replayed_more, replayed_end}
+use mathlib.Core.Path.{◌∙◌}
+use borrow.Author.Rules.{rules}
+use Rattle.promises.proofs.Results.{task_left}
+use Rattle.promises.proofs.ReplayLaws.{story_more, story_none}
 use Rattle.promises.proofs.replay.replay.Goals as goal
 
-pub loop-i-preserved : goal.loop-i-preserved
-loop-i-preserved c = record {
-  counted = refl;
-  replayed =
-      replayed_more c.args.t c.args.table.now c.args.edits.now c.loop-i.i c.loop-i.task c.loop-i.table c.edit_at-e.result c.edit-done.result c.edit-done.new.table
-      (omega arith) c.loop-i.invariant.replayed c.edit_at-e.ensures c.edit-done.ensures;
-}
+pub loop-left-preserved : goal.loop-left-preserved
+loop-left-preserved c = λ u end x.
+    c.loop-left.invariant u end
+    (story_more c.loop-left.left.now c.in-len4-up.len_at_least
+    (c.edit_of-e.ensures ∙ rw (c.from.ensures, c.from-in-len4-up.ensures, c.from-in-len4-up-2.ensures, c.from-in-len4-up-3.ensures)) c.edit.ensures
+    (task_left c.edit.result _ (λ e h. search rules) c.unwrap_or_else-task.ensures) x)
 
 pub returns : goal.returns
-returns c =
-    replayed_end c.args.t c.args.table.now c.args.edits.now c.loop-i.i c.loop-i.task c.loop-i.table (omega arith) c.loop-i.invariant.replayed
+returns c = c.loop-left.invariant c.loop-left.task c.loop-left.table (story_none c.loop-left.left.now c.in_default.len_below)

@@ -1,51 +1,20 @@
-use mathlib.Core.Path.{refl}
+-- `rows::copying::copy` writes the numbers over those that stood there.
+use mathlib.Core.List.{List, ◌++◌}
+use mathlib.Core.Path.{◌≡◌, ap, ◌∙◌}
+use Prim.Native.Nat.{ℕ, ◌+◌, ◌-◌}
 use native.Mathlib.Omega.{arith}
-use lib.ListN.{drop, length-set}
-use Rattle.rows.proofs.CopyLaws.{pasted_none, pasted_end, copied_more}
+use lib.ListN.{take, drop, length-drop}
+use lib.Seq.{take-take, length-take-le}
+use Rattle.std.proofs.lemmas.Slice.{put_mid-paste}
+use Rattle.rows.specs.Copies.{pasted}
 use Rattle.rows.proofs.copying.copy.Goals as goal
 
-pub loop-i-init : goal.loop-i-init
-loop-i-init c = (omega arith, refl, pasted_none c.args.to.now c.args.at (drop c.args.start c.args.from.now))
-
-pub overflow_add-to : goal.overflow_add-to
-overflow_add-to c = omega arith
-
-pub offset_bounds-from-start : goal.offset_bounds-from-start
-offset_bounds-from-start c = omega arith
-
-pub bounds-from-start : goal.bounds-from-start
-bounds-from-start c = omega arith
-
-pub overflow_add-to-in-loop-i : goal.overflow_add-to-in-loop-i
-overflow_add-to-in-loop-i c = omega arith
-
-pub offset_bounds-to-at : goal.offset_bounds-to-at
-offset_bounds-to-at c = omega arith
-
-pub bounds-to-at : goal.bounds-to-at
-bounds-to-at c = omega arith
-
-pub overflow_step-i : goal.overflow_step-i
-overflow_step-i c = omega arith
-
-pub loop-i-smaller : goal.loop-i-smaller
-loop-i-smaller c = omega arith
-
-pub loop-i-preserved : goal.loop-i-preserved
-loop-i-preserved c =
-    let a = c.args in
-    let i = c.loop-i.i in (
-      omega arith,
-      simp length-set c.loop-i.invariant.1,
-      copied_more a.to.now a.at a.from.now a.start c.loop-i.to i (omega arith) (omega arith)
-          c.loop-i.invariant.2,
-    )
-
-pub shape_of-to : goal.shape_of-to
-shape_of-to c = c.loop-i.invariant.1
-
 pub returns : goal.returns
+unfolding pasted
 returns c =
     let a = c.args in
-    pasted_end a.to.now a.at (drop a.start a.from.now) c.loop-i.to c.loop-i.i a.count (omega arith)
-    (omega arith) c.loop-i.invariant.2
+    let part : List ℕ = drop a.start a.from.now in
+    let count : a.start + a.count - a.start ≡ a.count = omega arith in
+    put_mid-paste a.at _ a.to.now c.copy_from_slice.new.self (take a.count part) a.count (c.copy_from_slice.ensures.after ∙ ap (λ n. take n part) count)
+    (omega arith) (omega (arith, length-take-le a.count part (omega (arith, length-drop a.start a.from.now)))) ∙
+    ap (λ (l : List ℕ). take a.at a.to.now ++ l ++ drop (a.at + a.count) a.to.now) (take-take a.count a.count part (omega arith))

@@ -1,11 +1,6 @@
 -- `rows::wrong::wrong_in` meets its contract: before step i the pass has come so far. Assumes nothing.
-use Prim.Native.Nat.{◌-◌}
-use Rattle.table.specs.Tasks.{count_of}
 use Rattle.rows.proofs.WrongLaws.{Passed}
 use Rattle.rows.proofs.wrong.wrong_in.Given as goal
 
 abbrev pub invariant-loop-i : goal.invariant-loop-i
 invariant-loop-i l = Passed l.t l.run l.state l.wrong l.i
-
-abbrev pub decreases-loop-i : goal.decreases-loop-i
-decreases-loop-i l = count_of l.t.runs l.run - l.i

@@ -1,12 +1,14 @@
 -- `solve::report::report` meets its contract: what the sum tells. Assumes nothing.
-use Rattle.solve.proofs.ReportLaws.{sum_fits, none_told, answered_told}
+use Rattle.std.proofs.lemmas.Result.{err_from_is_err_and}
+use Rattle.solve.proofs.ReportLaws.{sum_fits, refusal_told, total_told}
 use Rattle.solve.proofs.report.report.Goals as goal
 
-pub returns-then-reply-eq0 : goal.returns-then-reply-eq0
-returns-then-reply-eq0 c =
+pub returns-in_err-length : goal.returns-in_err-length
+returns-in_err-length c =
     let a = c.args in
-    none_told a.table.now a.t.table.facts a.t.table.limit a.room.now c.sum_rows-sum.result c.sum_rows-sum.ensures
-    c.answered-reply.result c.answered-reply.ensures c.if-reply-eq0.true
+    let p = err_from_is_err_and c.from_residual.result c.from_residual.ensures.1 in
+    rw (p.1, p.2)
+    (refusal_told a.table.now a.t.table.facts a.t.table.limit a.room.now c.sum_rows-sum.result c.sum_rows-sum.ensures _ c.in_err-length.ensures)
 
 pub write_lists-requires : goal.write_lists-requires
 write_lists-requires c =
@@ -14,12 +16,11 @@ write_lists-requires c =
       facts_le_max_facts = c.requires.well_formed.facts_high;
       readable = c.requires.readable;
       facts_in_bounds = sum_fits c.args.table.now c.args.t.table.facts c.args.t.table.limit c.args.room.now c.sum_rows-sum.result
-          c.sum_rows-sum.ensures c.answered-reply.result c.answered-reply.ensures c.if-reply-eq0.false;
+          c.sum_rows-sum.ensures c.in_ok-length.length c.in_ok-length.ensures;
     }
 
 pub returns : goal.returns
 returns c =
     let a = c.args in
-    answered_told a.table.now a.t.table.facts a.t.table.limit a.room.now c.sum_rows-sum.result c.sum_rows-sum.ensures
-    c.answered-reply.result c.answered-reply.ensures c.if-reply-eq0.false c.write_lists.new.room
-    c.write_lists.ensures
+    total_told a.table.now a.t.table.facts a.t.table.limit a.room.now c.sum_rows-sum.result c.sum_rows-sum.ensures
+    c.in_ok-length.length c.in_ok-length.ensures c.write_lists.new.room c.write_lists.ensures

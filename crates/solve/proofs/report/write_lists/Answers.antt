@@ -16,12 +16,6 @@ first_at-requires c =
       all_rows_in_bounds = c.requires.readable.places;
     }
 
-pub overflow_mul-f : goal.overflow_mul-f
-overflow_mul-f c = omega arith
-
-pub overflow_add-f : goal.overflow_add-f
-overflow_add-f c = omega arith
-
 pub copy-requires : goal.copy-requires
 copy-requires c =
     let repairs-here : c.announced-count.result ≡ repairs_in (row_at c.args.table.now c.loop-f.f) =
@@ -43,12 +37,6 @@ overflow_add-at c =
     c.requires.facts_in_bounds c.loop-f.room c.loop-f.at c.loop-f.f (omega arith) c.loop-f.invariant in
     omega (arith, repairs-here, next_fits, c.loop-f.invariant.places)
 
-pub overflow_step-f : goal.overflow_step-f
-overflow_step-f c = omega arith
-
-pub loop-f-smaller : goal.loop-f-smaller
-loop-f-smaller c = omega arith
-
 pub loop-f-preserved : goal.loop-f-preserved
 loop-f-preserved c =
     let repairs-here : c.announced-count.result ≡ repairs_in (row_at c.args.table.now c.loop-f.f) =
@@ -56,9 +44,6 @@ loop-f-preserved c =
     listed_more c.args.table.now c.args.facts c.args.room.now c.requires.facts_le_max_facts c.requires.readable c.requires.facts_in_bounds c.loop-f.room
     c.copy.new.to c.loop-f.at c.loop-f.f c.announced-count.result
     (omega arith) repairs-here c.copy.ensures c.loop-f.invariant
-
-pub shape_of-room : goal.shape_of-room
-shape_of-room c = c.loop-f.invariant.places
 
 pub returns : goal.returns
 returns c =

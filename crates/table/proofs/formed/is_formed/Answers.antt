@@ -4,21 +4,10 @@ use mathlib.Core.Bool.{true}
 use mathlib.Core.Path.{◌≡◌, sym, ◌∙◌}
 use Rattle.table.specs.Counting.{every_below}
 use Rattle.table.specs.Sizes.{max_runs}
-use Rattle.table.specs.Tasks.{sizes_formed, run_formed, step_fits, step_formed, formed}
+use Rattle.table.specs.Tasks.{sizes_formed, run_formed}
 use Rattle.table.specs.declared.Task.{Task}
 use Rattle.table.proofs.Formation.{sizes_in, counts_fit}
 use Rattle.table.proofs.formed.is_formed.Goals as goal
-
-pub returns-then-not-are_sizes_formed : goal.returns-then-not-are_sizes_formed
-unfolding formed
-returns-then-not-are_sizes_formed c = rw (sym c.are_sizes_formed.ensures ∙ c.if-not-are_sizes_formed.true)
-
-pub returns-then-not-are_runs_formed : goal.returns-then-not-are_runs_formed
-unfolding formed
-returns-then-not-are_runs_formed c =
-    let task : Task = c.args.t in
-    let sized : sizes_formed (task) ≡ true = sym c.are_sizes_formed.ensures ∙ c.if-not-are_sizes_formed.false in
-    rw (sized, sym c.are_runs_formed.ensures ∙ c.if-not-are_runs_formed.true)
 
 pub are_actions_formed-requires : goal.are_actions_formed-requires
 are_actions_formed-requires c =
@@ -37,11 +26,3 @@ are_steps_formed-requires c =
       actions_le_max_actions = sizes.3;
       counts_fit = counts_fit (task) (ranged);
     }
-
-pub returns : goal.returns
-unfolding formed step_formed step_fits
-returns c =
-    let task : Task = c.args.t in
-    let sized : sizes_formed (task) ≡ true = sym c.are_sizes_formed.ensures ∙ c.if-not-are_sizes_formed.false in
-    let ranged : every_below (run_formed (task)) max_runs ≡ true = sym c.are_runs_formed.ensures ∙ c.if-not-are_runs_formed.false in
-    rw (sized, ranged, c.are_actions_formed.ensures, c.are_steps_formed.ensures)

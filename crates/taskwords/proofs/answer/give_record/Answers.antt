@@ -1,9 +1,7 @@
 -- `give_record` places the six words of a record.
 use mathlib.Core.Path.{refl}
-use Rattle.room.proofs.PlacingLaws.{placed_more}
 use Rattle.taskwords.proofs.PuttingLaws.{given_words}
 use Rattle.taskwords.proofs.answer.give_record.Goals as goal
 
 pub returns : goal.returns
-returns c =
-    given_words refl (placed_more c.put_three-next.ensures c.put_three.ensures)
+returns c = given_words refl c.put_words.ensures

@@ -1,28 +1,18 @@
 use borrow.Author.Rules.{rules}
 use native.Mathlib.Omega.{arith}
 use Rattle.table.specs.Sizes.{max_runs}
-use Rattle.room.proofs.Gathering.{next_fits, one_more, length_kept}
+use Rattle.room.proofs.Gathering.{next_fits, one_more}
 use Rattle.taskwords.proofs.PuttingLaws.{words_begun, words_placed}
 use Rattle.taskwords.proofs.answer.put_counts.Goals as goal
 
-pub loop-i-init : goal.loop-i-init
-loop-i-init c = words_begun c.args.counts max_runs (search rules) _ _ (search rules)
+pub loop-count-init : goal.loop-count-init
+loop-count-init c = words_begun c.args.counts.now max_runs (search rules) _ _ (search rules)
+
+pub loop-count-preserved : goal.loop-count-preserved
+loop-count-preserved c = one_more c.loop-count.invariant (search rules) c.put-next.ensures
 
 pub put-next-requires : goal.put-next-requires
-put-next-requires c = omega (arith, next_fits c.loop-i.invariant (search rules))
-
-pub overflow_step-i : goal.overflow_step-i
-overflow_step-i c = omega arith
-
-pub loop-i-smaller : goal.loop-i-smaller
-loop-i-smaller c = omega arith
-
-pub loop-i-preserved : goal.loop-i-preserved
-loop-i-preserved c =
-    one_more c.loop-i.invariant c.loop-i-test.true c.put-next.ensures
-
-pub shape_of-answer : goal.shape_of-answer
-shape_of-answer c = length_kept c.loop-i.invariant
+put-next-requires c = omega (arith, next_fits c.loop-count.invariant (search rules))
 
 pub returns : goal.returns
-returns c = words_placed _ _ (search rules) c.loop-i.invariant c.loop-i-test.false
+returns c = words_placed _ _ (search rules) c.loop-count.invariant (search rules)

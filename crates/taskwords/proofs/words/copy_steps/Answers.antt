@@ -1,7 +1,8 @@
 use mathlib.Core.Path.{◌≡◌, refl, ap, ◌∙◌}
 use native.Mathlib.Omega.{arith}
-use Prim.Native.Nat.{◌+◌, ◌≤◌}
-use lib.ListN.{length}
+use Prim.Native.Nat.{◌+◌, ◌-◌, ◌≤◌}
+use lib.ListN.{length, drop}
+use lib.Seq.{get_or-take, get_or-drop}
 use Rattle.table.specs.Sizes.{all_steps}
 use Rattle.taskwords.specs.Words.{step_in, steps_at}
 use Rattle.taskwords.proofs.FillingLaws.{begun_none, begun_more, begun_all}
@@ -15,27 +16,12 @@ none = refl
 pub loop-i-init : goal.loop-i-init
 loop-i-init c = (omega arith, rw c.requires.steps_value (begun_none _ all_steps))
 
-pub overflow_add-i : goal.overflow_add-i
-overflow_add-i c = omega (arith, c.requires.used_le_all_steps.0)
-
-pub offset_bounds-words-i : goal.offset_bounds-words-i
-offset_bounds-words-i c = omega (arith, c.requires.used_le_all_steps.0)
-
-pub bounds-words-i : goal.bounds-words-i
-bounds-words-i c = omega (arith, c.requires.words_len, c.requires.used_le_all_steps.0)
-
-pub bounds-steps-i : goal.bounds-steps-i
-bounds-steps-i c = omega (arith, c.requires.used_le_all_steps.0)
-
-pub overflow_step-i : goal.overflow_step-i
-overflow_step-i c = omega (arith, c.requires.used_le_all_steps.0)
-
-pub loop-i-smaller : goal.loop-i-smaller
-loop-i-smaller c = omega arith
-
 pub loop-i-preserved : goal.loop-i-preserved
 loop-i-preserved c =
-    (omega arith, begun_more _ c.loop-i.invariant.1 _ (omega (arith, c.requires.used_le_all_steps.0)) c.step_in.ensures)
+    let a = c.args in
+    let i = c.loop-i.i in
+    let word = get_or-take (steps_at + a.used - steps_at) (drop steps_at a.words.now) i 0 (omega arith) ∙ get_or-drop steps_at a.words.now i 0 in
+    (omega arith, begun_more _ c.loop-i.invariant.1 _ (omega (arith, c.requires.used_le_all_steps.0)) (c.step_in.ensures ∙ ap step_in word))
 
 pub returns : goal.returns
 returns c =

@@ -2,7 +2,6 @@
 use mathlib.Core.List.{List}
 use mathlib.Core.Path.{◌≡◌, ap}
 use Prim.Native.Nat.{ℕ}
-use borrow.Author.Rules.{rules}
 use borrow.Author.Tests.{eq-eqb, ne_eqb}
 use lib.ListN.{length, get_or}
 use Rattle.table.specs.declared.Task.{Task}
@@ -32,29 +31,17 @@ pub returns-then-words-ne-TASK_WORDS : goal.returns-then-words-ne-TASK_WORDS
 unfolding task_in
 returns-then-words-ne-TASK_WORDS c = rw (ne_eqb _ _ c.if-words-ne-TASK_WORDS.true) c.no_task.ensures
 
-pub copy_counts-requires : goal.copy_counts-requires
-copy_counts-requires c =
-    record {
-      words_len = search rules;
-      counts_len = ap (λ (t : Task). length t.runs.counts) c.no_task-t.ensures;
-    }
-
-pub copy_steps-requires : goal.copy_steps-requires
-copy_steps-requires c =
-    record {
-      words_len = search rules;
-      used_le_all_steps = c.used_steps.ensures;
-      steps_value = ap (λ (t : Task). t.runs.steps) c.no_task-t.ensures;
-    }
+pub copy_steps-requires-clause-steps_value : goal.copy_steps-requires-clause-steps_value
+copy_steps-requires-clause-steps_value c = ap (λ (t : Task). t.runs.steps) c.no_task-t.ensures
 
 pub returns : goal.returns
 returns c =
     made c.args.words.now c.if-words-ne-TASK_WORDS.false
-    c.copy_action_masks.ensures
-    c.copy_action_masks-2.ensures
-    c.copy_action_masks-3.ensures
-    c.copy_action_masks-4.ensures
-    c.copy_run_masks.ensures
-    c.copy_run_masks-2.ensures
+    c.copy_masks.ensures
+    c.copy_masks-2.ensures
+    c.copy_masks-3.ensures
+    c.copy_masks-4.ensures
+    c.copy_masks-5.ensures
+    c.copy_masks-6.ensures
     c.copy_counts.ensures
     c.copy_steps.ensures

@@ -31,4 +31,4 @@ returns c =
     rw (file_is c.args.task)
     (placed_more
     (placed_more (placed_more c.through_cells-next.ensures c.step_records-next.ensures) c.further_runs-next.ensures)
-    c.put.ensures)
+    (rw c.number.ensures at c.put.ensures))

@@ -1,6 +1,6 @@
 use native.Mathlib.Omega.{arith}
 use Rattle.taskformat.specs.Format.{cell_records}
-use Rattle.room.proofs.Gathering.{begun, next_fits, one_more, all_placed, length_kept}
+use Rattle.room.proofs.Gathering.{begun, next_fits, one_more, all_placed}
 use Rattle.taskwriter.proofs.sections.cell_records.Goals as goal
 
 pub loop-action-init : goal.loop-action-init
@@ -10,18 +10,9 @@ loop-action-init c = begun _ _ _ _ c.requires.0
 pub action_records-next-requires : goal.action_records-next-requires
 action_records-next-requires c = (next_fits c.loop-action.invariant c.loop-action-test.true, omega arith, omega arith)
 
-pub overflow_step-action : goal.overflow_step-action
-overflow_step-action c = omega arith
-
-pub loop-action-smaller : goal.loop-action-smaller
-loop-action-smaller c = omega arith
-
 pub loop-action-preserved : goal.loop-action-preserved
 loop-action-preserved c =
     one_more c.loop-action.invariant c.loop-action-test.true c.action_records-next.ensures
-
-pub shape_of-room : goal.shape_of-room
-shape_of-room c = length_kept c.loop-action.invariant
 
 pub returns : goal.returns
 unfolding cell_records

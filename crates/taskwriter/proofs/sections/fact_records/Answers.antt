@@ -1,5 +1,4 @@
-use native.Mathlib.Omega.{arith}
-use Rattle.room.proofs.Gathering.{begun, next_fits, one_more, all_placed, length_kept}
+use Rattle.room.proofs.Gathering.{begun, next_fits, one_more, all_placed}
 use Rattle.taskformat.specs.Format.{fact_records}
 use Rattle.taskwriter.proofs.sections.fact_records.Goals as goal
 
@@ -8,20 +7,11 @@ unfolding fact_records
 loop-fact-init c = begun _ _ _ _ c.requires.0
 
 pub record_if_in-next-requires : goal.record_if_in-next-requires
-record_if_in-next-requires c = next_fits c.loop-fact.invariant c.loop-fact-test.true
-
-pub overflow_step-fact : goal.overflow_step-fact
-overflow_step-fact c = omega arith
-
-pub loop-fact-smaller : goal.loop-fact-smaller
-loop-fact-smaller c = omega arith
+record_if_in-next-requires c = rw c.number-byte.ensures (next_fits c.loop-fact.invariant c.loop-fact-test.true)
 
 pub loop-fact-preserved : goal.loop-fact-preserved
 loop-fact-preserved c =
-    one_more c.loop-fact.invariant c.loop-fact-test.true c.record_if_in-next.ensures
-
-pub shape_of-room : goal.shape_of-room
-shape_of-room c = length_kept c.loop-fact.invariant
+    one_more c.loop-fact.invariant c.loop-fact-test.true (rw c.number-byte.ensures at c.record_if_in-next.ensures)
 
 pub returns : goal.returns
 unfolding fact_records

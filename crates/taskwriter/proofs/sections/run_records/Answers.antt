@@ -28,4 +28,4 @@ step_records-requires c =
 pub returns : goal.returns
 unfolding run_with
 returns c =
-    placed_more (placed_more c.put-next.ensures c.set_records-next.ensures) c.step_records.ensures
+    placed_more (placed_more (rw c.number.ensures at c.put-next.ensures) c.set_records-next.ensures) c.step_records.ensures

@@ -1,31 +1,22 @@
+use mathlib.Core.Path.{◌∙◌}
+use Prim.Native.Nat.{◌+◌, ◌*◌, ◌-◌}
 use native.Mathlib.Omega.{arith}
-use Rattle.room.proofs.Gathering.{begun, next_fits, one_more, all_placed, length_kept}
+use lib.ListN.{drop}
+use lib.Seq.{get_or-take, get_or-drop}
+use Rattle.room.proofs.Gathering.{begun, next_fits, one_more}
+use Rattle.table.specs.Sizes.{max_steps}
 use Rattle.taskwriter.proofs.sections.step_records.Goals as goal
 
-pub loop-i-init : goal.loop-i-init
-loop-i-init c = begun _ _ _ _ c.requires.0
-
-pub overflow_add-bytes : goal.overflow_add-bytes
-overflow_add-bytes c = omega arith
-
-pub bounds-steps-run : goal.bounds-steps-run
-bounds-steps-run c = omega arith
+pub loop-step-init : goal.loop-step-init
+loop-step-init c = begun _ _ _ _ c.requires.0
 
 pub put_word-next-requires : goal.put_word-next-requires
-put_word-next-requires c = next_fits c.loop-i.invariant c.loop-i-test.true
+put_word-next-requires c = next_fits c.loop-step.invariant (omega arith)
 
-pub overflow_step-i : goal.overflow_step-i
-overflow_step-i c = omega arith
-
-pub loop-i-smaller : goal.loop-i-smaller
-loop-i-smaller c = omega arith
-
-pub loop-i-preserved : goal.loop-i-preserved
-loop-i-preserved c =
-    one_more c.loop-i.invariant c.loop-i-test.true c.put_word-next.ensures
-
-pub shape_of-room : goal.shape_of-room
-shape_of-room c = length_kept c.loop-i.invariant
-
-pub returns : goal.returns
-returns c = all_placed c.loop-i.invariant c.loop-i-test.false
+pub loop-step-preserved : goal.loop-step-preserved
+loop-step-preserved c =
+    let a = c.args in
+    let first = max_steps * a.run in
+    let i = c.loop-step.step-index in
+    one_more c.loop-step.invariant (omega arith)
+    (rw (c.number-byte.ensures, get_or-take (first + a.count - first) (drop first a.steps.now) i 0 (omega arith) ∙ get_or-drop first a.steps.now i 0) at c.put_word-next.ensures)

@@ -3,12 +3,6 @@ use native.Mathlib.Omega.{arith}
 use Rattle.text.proofs.LineLaws.{answer_length, answer_placed}
 use Rattle.text.proofs.lines.answer_lines.Goals as goal
 
-pub put_line-next-requires : goal.put_line-next-requires
-put_line-next-requires c = omega (arith, answer_length c.args.list.now)
-
-pub repair_lines-next-requires : goal.repair_lines-next-requires
-repair_lines-next-requires c = omega (arith, answer_length c.args.list.now)
-
 pub put_word-requires : goal.put_word-requires
 put_word-requires c = omega (arith, answer_length c.args.list.now)
 

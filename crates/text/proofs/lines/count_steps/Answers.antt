@@ -1,53 +1,48 @@
-use mathlib.Core.Path.{◌≡◌, ap, sym, ◌∙◌}
-use Prim.Native.Nat.{◌+◌, ◌≤◌}
+use mathlib.Core.Path.{◌≡◌, refl, ap, sym, ◌∙◌}
+use Prim.Native.Nat.{◌+◌, ◌<◌}
 use native.Mathlib.Omega.{arith}
-use borrow.Author.Rules.{rules}
-use lib.ListN.{length}
+use lib.ListN.{length, take}
+use lib.Seq.{length-take-le}
+use Rattle.std.proofs.lemmas.List.{get_or-take}
 use Rattle.table.specs.Counting.{sum_below}
-use Rattle.table.specs.Sizes.{max_runs, max_steps}
+use Rattle.table.specs.Sizes.{max_steps}
 use Rattle.table.specs.Tasks.{count_of, WellFormed}
 use Rattle.table.specs.declared.Task.{Task}
 use Rattle.table.proofs.CountingLaws.{at_end, sum_below_le, sum_below_next}
 use Rattle.text.proofs.lines.count_steps.Goals as goal
 
--- the run is one of the array's eight
-bounds : {t : Task} → WellFormed t → (t.runs.many ≤ max_runs) × (length t.runs.counts ≡ max_runs)
-bounds w = (w.many_high, w.shaped.counts)
+-- the runs that there are
+taken : {t : Task} → WellFormed t → length (take t.runs.many t.runs.counts) ≡ t.runs.many
+taken {t} w = length-take-le t.runs.many t.runs.counts (omega (arith, w.many_high, w.shaped.counts))
 
-pub loop-i-init : goal.loop-i-init
+pub loop-count-init : goal.loop-count-init
 unfolding sum_below
-loop-i-init c = search rules
-
-pub offset_bounds-counts-i : goal.offset_bounds-counts-i
-offset_bounds-counts-i c =
-    omega (arith, bounds c.requires)
-
-pub bounds-counts-i : goal.bounds-counts-i
-bounds-counts-i c =
-    omega (arith, bounds c.requires)
+loop-count-init c = refl
 
 pub overflow_add-steps : goal.overflow_add-steps
 overflow_add-steps c =
     let w = c.requires in
-    omega (
+    let i = c.loop-count.count-index in
+    let low : i < c.args.task.runs.many = omega (arith, taken w, c.loop-count-test.true) in
+    rw (get_or-take c.args.task.runs.many c.args.task.runs.counts i 0 low)
+    (omega (
       arith,
-      bounds w,
-      c.loop-i.invariant,
-      w.count_high c.loop-i.i,
-      sum_below_le (count_of c.args.task.runs) c.loop-i.i max_steps (λ k below. w.count_high k),
-    )
+      w.many_high,
+      c.loop-count.invariant,
+      w.count_high i,
+      sum_below_le (count_of c.args.task.runs) i max_steps (λ k below. w.count_high k),
+    ))
 
-pub overflow_step-i : goal.overflow_step-i
-overflow_step-i c = omega arith
-
-pub loop-i-smaller : goal.loop-i-smaller
-loop-i-smaller c = omega arith
-
-pub loop-i-preserved : goal.loop-i-preserved
-loop-i-preserved c =
+pub loop-count-preserved : goal.loop-count-preserved
+loop-count-preserved c =
     let g = count_of c.args.task.runs in
-    (omega arith, ap (λ n. n + g c.loop-i.i) c.loop-i.invariant.1 ∙ sym (sum_below_next g c.loop-i.i))
+    let i = c.loop-count.count-index in
+    let low : i < c.args.task.runs.many = omega (arith, taken c.requires, c.loop-count-test.true) in
+    rw (get_or-take c.args.task.runs.many c.args.task.runs.counts i 0 low)
+    (ap (λ n. n + g i) c.loop-count.invariant ∙ sym (sum_below_next g i))
 
 pub returns : goal.returns
 returns c =
-    at_end (sum_below (count_of c.args.task.runs)) c.loop-i.i c.args.task.runs.many c.loop-i.invariant.0 (omega arith) c.loop-i.invariant.1
+    let runs = c.args.task.runs in
+    at_end (sum_below (count_of runs)) c.loop-count.count-index runs.many (omega (arith, taken c.requires, c.loop-count.auto.count-index-end))
+    (omega (arith, taken c.requires, c.loop-count-test.false)) c.loop-count.invariant

@@ -8,13 +8,13 @@ use Rattle.text.proofs.lines.first_lines.Goals as goal
 pub put_line-next-requires : goal.put_line-next-requires
 put_line-next-requires c =
     let table = c.args.task.table in
-    omega (arith, task_most table.facts table.actions table.limit c.count_steps-steps.result)
+    omega (arith, task_most table.facts table.actions table.limit c.count_steps.result)
 
 pub open_lines-requires : goal.open_lines-requires
 open_lines-requires c =
     let table = c.args.task.table in
     let few = c.requires.many_high in
-    let line = task_most table.facts table.actions table.limit c.count_steps-steps.result in
+    let line = task_most table.facts table.actions table.limit c.count_steps.result in
     record {
       many_le_max_runs = omega arith;
       many_bound = opens_fit (check_in c.args.checks) _ _ (omega arith) (omega (arith, c.put_line-next.ensures.next_is));
@@ -23,4 +23,4 @@ open_lines-requires c =
 pub returns : goal.returns
 returns c =
     let a = c.args in
-    first_placed a.task (check_in a.checks) c.count_steps-steps.ensures c.put_line-next.ensures c.open_lines.ensures
+    first_placed a.task (check_in a.checks) c.count_steps.ensures c.put_line-next.ensures c.open_lines.ensures

@@ -1,8 +1,0 @@
--- `search::row::row_with` meets its contract. Assumes nothing.
-use borrow.Author.Rules.{rules}
-use Rattle.search.specs.Rows.{row_with}
-use Rattle.search.proofs.row.row_with.Goals as goal
-
-pub returns : goal.returns
-unfolding row_with
-returns c = search rules

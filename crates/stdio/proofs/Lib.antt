@@ -1,0 +1,2 @@
+-- The laws of reading.
+mod ReadLaws
