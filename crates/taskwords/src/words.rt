@@ -34,12 +34,12 @@ pub const STEPS_AT: usize = COUNTS_AT + RUNS;
 
 pub const TASK_WORDS: usize = STEPS_AT + ALL_STEPS;
 
-// As many masks from a place on as the array has: those of all actions, or of all runs.
+// As many masks from a place on as the array has: those of all actions, or of all runs. (`copy_from_slice` would need `memmove`.)
 fn copy_masks<const N: usize>(words: &[u64], at: usize, masks: &mut [u64; N])
     requires { at + N ≤ length words.now }
     ensures { masks.new ≡ take N (drop at words.now) }
 {
-    masks.copy_from_slice(&words[at..at + N]);
+    *masks = <[u64; N]>::try_from(&words[at..at + N]).unwrap();
 }
 
 // The number of steps of each run.
