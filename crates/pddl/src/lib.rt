@@ -1,5 +1,5 @@
-// The table and its runs as PDDL (02, request 4): what the texts are and what reading gives (specs/), and the theorems (proofs/). No
-// function stands here: the readers stand in `pddlreader`, the writers in `pddlwriter`.
+// The table and its runs as PDDL (02, request 4): what the texts are and what reading gives (specs/), and the theorems (proofs/). The
+// readers stand in `pddlreader`, the writers in `pddlwriter`; here is what reading a problem text answers, and its numbers.
 
 #![tactic(auto)]
 
